@@ -1,0 +1,4 @@
+pub mod Choosing
+pub mod Refusal
+pub mod Tests
+pub mod Unique

@@ -1,0 +1,128 @@
+-- Entries compared, and that bytes tell an entry: over any Entry, with no side condition.
+use Prim.Native.Nat.{ℕ, _<_}
+use mathlib.Core.Path.{_≡_, refl, sym, ap, ap₂, _∙_, subst}
+use mathlib.Core.Bool.{Bool, true, false, not, _&&_, _||_}
+use mathlib.Core.List.{List, [], _∷_, _++_}
+use mathlib.Core.Logic.{_⊎_, inl, inr}
+use native.Mathlib.Omega.{arith}
+use lib.Dec.{T, eqb, ltb, eqb→eq, ltb→lt, not-T, T-not}
+use lib.ListN.{length, take, drop, replicate, length-take, length-drop, take-append-drop}
+use borrow.Author.Tests.{eqb-true, eq-eqb, ltb-true, lt-ltb, le-ltb}
+use Rattle.base.specs.Tests.{and-l, and-r, and-i, and-true, is-true, true-is, same-test}
+use Rattle.entry.specs.declared.Entry.{Entry}
+use Rattle.entry.specs.Entry.{all, wordBytes, bytesOf, wellFormed, same, less, ofWords, entryOf}
+use Rattle.entry.specs.Flags.{and-alone, last-step}
+use Rattle.entry.specs.Words.{below, equal-word, below-word, word-back, isByte, word-made}
+
+-- How the code compares: word by word.
+pub same-words : (a b : Entry) → same a b ≡ (eqb (a .hi) (b .hi) && eqb (a .lo) (b .lo))
+unfolding same
+same-words a b =
+    equal-word (a .hi) (b .hi) (wordBytes (a .lo)) (wordBytes (b .lo))
+    ∙ ap (λ (t : Bool). eqb (a .hi) (b .hi) && t) (equal-word (a .lo) (b .lo) [] [] ∙ and-alone (eqb (a .lo) (b .lo)))
+
+pub less-words : (a b : Entry) → less a b ≡ (ltb (a .hi) (b .hi) || (eqb (a .hi) (b .hi) && ltb (a .lo) (b .lo)))
+unfolding less
+less-words a b =
+    below-word (a .hi) (b .hi) (wordBytes (a .lo)) (wordBytes (b .lo))
+    ∙ ap (λ (t : Bool). below (a .hi) (b .hi) t) (below-word (a .lo) (b .lo) [] [] ∙ last-step (ltb (a .lo) (b .lo)) (eqb (a .lo) (b .lo)))
+
+-- `same` is equality.
+pub same-eq : (a b : Entry) → T (same a b) → a ≡ b
+same-eq a b h =
+    let t = and-true (eqb (a .hi) (b .hi)) (eqb (a .lo) (b .lo)) (sym (same-words a b) ∙ true-is (same a b) h) in
+    ap₂ ofWords (eqb-true (a .hi) (b .hi) (t .0)) (eqb-true (a .lo) (b .lo) (t .1))
+
+pub eq-same : (a b : Entry) → a ≡ b → same a b ≡ true
+eq-same a b p =
+    let high = eq-eqb (a .hi) (b .hi) (ap (λ (e : Entry). e .hi) p) in
+    let low = eq-eqb (a .lo) (b .lo) (ap (λ (e : Entry). e .lo) p) in
+    same-words a b ∙ simp (high, low)
+
+pub same-refl : (a : Entry) → T (same a a)
+same-refl a = is-true (same a a) (eq-same a a refl)
+
+pub same-sym : (a b : Entry) → same a b ≡ same b a
+same-sym a b =
+    same-test (same a b) (same b a)
+    (λ (h : same a b ≡ true). eq-same b a (sym (same-eq a b (is-true (same a b) h))))
+    (λ (h : same b a ≡ true). eq-same a b (sym (same-eq b a (is-true (same b a) h))))
+
+-- What `less` tells of the words, and what tells it.
+abbrev Ahead : Entry → Entry → Type 0
+Ahead a b = (a .hi < b .hi) ⊎ ((a .hi ≡ b .hi) × (a .lo < b .lo))
+
+less-cases : (a b : Entry) → T (less a b) → Ahead a b
+less-cases a b h = go (ltb (a .hi) (b .hi)) refl (subst T (less-words a b) h)
+  where
+    go : (t : Bool) → ltb (a .hi) (b .hi) ≡ t → T (t || (eqb (a .hi) (b .hi) && ltb (a .lo) (b .lo))) → Ahead a b
+    go true e k = inl (ltb-true (a .hi) (b .hi) e)
+    go false e k =
+        let equal-high = and-l (eqb (a .hi) (b .hi)) (ltb (a .lo) (b .lo)) k in
+        let less-low = and-r (eqb (a .hi) (b .hi)) (ltb (a .lo) (b .lo)) k in
+        inr (eqb→eq (a .hi) (b .hi) equal-high, ltb→lt (a .lo) (b .lo) less-low)
+
+cases-less : (a b : Entry) → Ahead a b → T (less a b)
+cases-less a b (inl h) = rw less-words (simp (lt-ltb (a .hi) (b .hi) h) tt)
+cases-less a b (inr h) = rw less-words (simp (le-ltb (a .hi) (b .hi) (omega arith), eq-eqb (a .hi) (b .hi) (h .0), lt-ltb (a .lo) (b .lo) (h .1)) tt)
+
+-- `less` is a strict total order.
+pub less-irrefl : (a : Entry) → T (not (less a a))
+less-irrefl a = not-T (less a a) (λ (h : T (less a a)). never (less-cases a a h))
+  where
+    never : Ahead a a → ⊥
+    never (inl h) = omega arith
+    never (inr h) = omega arith
+
+pub less-trans : (a b c : Entry) → T (less a b) → T (less b c) → T (less a c)
+less-trans a b c h k = cases-less a c (go (less-cases a b h) (less-cases b c k))
+  where
+    go : Ahead a b → Ahead b c → Ahead a c
+    go (inl p) (inl q) = inl (omega arith)
+    go (inl p) (inr q) = inl (omega arith)
+    go (inr p) (inl q) = inl (omega arith)
+    go (inr p) (inr q) = inr (omega arith)
+
+pub less-total : (a b : Entry) → T (not (less a b)) → T (not (less b a)) → a ≡ b
+less-total a b h k =
+    let p : a .hi < b .hi → ⊥ = λ x. T-not (less a b) h (cases-less a b (inl x)) in
+    let q : b .hi < a .hi → ⊥ = λ x. T-not (less b a) k (cases-less b a (inl x)) in
+    let high : a .hi ≡ b .hi = omega arith in
+    let r : a .lo < b .lo → ⊥ = λ x. T-not (less a b) h (cases-less a b (inr (high, x))) in
+    let s : b .lo < a .lo → ⊥ = λ x. T-not (less b a) k (cases-less b a (inr (sym high, x))) in
+    let low : a .lo ≡ b .lo = omega arith in
+    ap₂ ofWords high low
+
+-- From words to bytes and back.
+pub bytes-back : (e : Entry) → entryOf (bytesOf e) ≡ e
+unfolding entryOf
+bytes-back e = ap₂ ofWords (word-back (e .hi)) (word-back (e .lo))
+
+pub bytes-tell : (a b : Entry) → bytesOf a ≡ bytesOf b → a ≡ b
+bytes-tell a b h = sym (bytes-back a) ∙ ap entryOf h ∙ bytes-back b
+
+all-append : (test : ℕ → Bool) (xs ys : List ℕ) → T (all test (xs ++ ys)) → T (all test xs) × T (all test ys)
+all-append test [] ys h = (tt, h)
+all-append test (x ∷ xs) ys h =
+    let r = all-append test xs ys (and-r (test x) (all test (xs ++ ys)) h) in
+    (and-i (test x) (all test xs) (and-l (test x) (all test (xs ++ ys)) h) (r .0), r .1)
+
+pub words-back : (bs : List ℕ) → length bs ≡ 16 → T (all isByte bs) → bytesOf (entryOf bs) ≡ bs
+unfolding entryOf
+words-back bs n h =
+    let both = all-append isByte (take 8 bs) (drop 8 bs) (subst (λ (s : List ℕ). T (all isByte s)) (sym (take-append-drop 8 bs)) h) in
+    ap₂ (λ (xs ys : List ℕ). xs ++ ys)
+    (word-made (take 8 bs) (simp length-take (omega arith)) (both .0))
+    (word-made (drop 8 bs) (simp length-drop (omega arith)) (both .1))
+    ∙ take-append-drop 8 bs
+
+-- Blanks count: with its blanks left out each of these two would read "A12xyz".
+abbrev pub shorter : Entry
+shorter = entryOf (0x41 ∷ 0x31 ∷ replicate 10 0x20 ++ (0x32 ∷ 0x78 ∷ 0x79 ∷ 0x7A ∷ []))
+
+abbrev pub longer : Entry
+longer = entryOf (0x41 ∷ 0x31 ∷ 0x32 ∷ replicate 9 0x20 ++ (0x20 ∷ 0x78 ∷ 0x79 ∷ 0x7A ∷ []))
+
+pub different : (wellFormed shorter ≡ true) × (wellFormed longer ≡ true) × (same shorter longer ≡ false)
+unfolding entryOf wellFormed same
+different = (refl, refl, refl)

@@ -1,0 +1,9 @@
+pub mod Entry
+pub mod Flags
+pub mod Laws
+pub mod Scan
+pub mod Serial
+pub mod Table
+pub mod TableLaws
+pub mod Unique
+pub mod Words

@@ -1,0 +1,34 @@
+// A table of 64 entries, one a seat, as one array of words: whoever keeps entries by seat never sees how wide an entry is.
+ghost use mathlib.Core.Path.{_≡_};
+ghost use Rattle.entry.specs.Table.{entryAt, withEntry};
+use crate::zero;
+use crate::Entry;
+
+// Seats of a table, and the words that they take.
+pub const SEATS: usize = 64;
+
+const WORDS: usize = 2 * SEATS;
+
+pub type Entries = [u64; WORDS];
+
+pub fn entry_at(t: &Entries, k: usize) -> Entry
+    ensures { λ r. ⌜ r ≡ entryAt (now (t .entry)) k ⌝ }
+{
+    if k < SEATS {
+        Entry {
+            hi: t[2 * k],
+            lo: t[2 * k + 1],
+        }
+    } else {
+        zero()
+    }
+}
+
+pub fn put_entry(t: &mut Entries, k: usize, e: Entry)
+    ensures { λ r. ⌜ now (t .exit) ≡ withEntry (now (t .entry)) k e ⌝ }
+{
+    if k < SEATS {
+        t[2 * k] = e.hi;
+        t[2 * k + 1] = e.lo;
+    }
+}

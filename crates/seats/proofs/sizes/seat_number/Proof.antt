@@ -1,0 +1,28 @@
+use mathlib.Core.Path.{_≡_, refl, sym, ap, ap₂, _∙_}
+use mathlib.Core.Bool.{Bool, true, false, cond}
+use Prim.Native.Nat.{ℕ}
+use lib.Dec.{eqb}
+use Rattle.seats.specs.Sizes.{sizeNumber, seatNumber}
+use Rattle.seats.specs.SizeLaws.{seat-after-sizes}
+use borrow.Author.Needs.{needs}
+use Rattle.seats.proofs.sizes.seat_number.Statement.{statement}
+use Rattle.seats.proofs.sizes.seat_number.Tie as tie
+use Rattle.seats.proofs.sizes.seat_number.Reads as reads
+use Rattle.seats.proofs.sizes.seat_number.Lts as lts
+use Rattle.base.proofs.pick.Reads as pick-reads
+use Rattle.seats.proofs.sizes.size_number.Reads as size-number-reads
+
+size-number-requires : tie.Need-size-number-requires
+size-number-requires c κs = search needs
+
+pick-requires : tie.Need-pick-requires
+pick-requires c κs = search needs
+
+pick-requires-2 : tie.Need-pick-requires-2
+pick-requires-2 c κs = search needs
+
+returns : tie.Need-returns
+returns c = simp (c .pick2 .ensures, c .before .pick .ensures, c .before .before .before .size-number .ensures) (seat-after-sizes _ _ _)
+
+pub seat-number-spec : {M : Type 1} → statement M
+seat-number-spec = tie.close (tie.spec size-number-requires pick-requires pick-requires-2 returns)

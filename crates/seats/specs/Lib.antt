@@ -1,0 +1,10 @@
+pub mod Seats
+pub mod Sizes
+pub mod Mask
+pub mod Certificate
+pub mod Count
+pub mod Bits
+pub mod Marks
+pub mod SizeLaws
+pub mod Quorums
+pub mod Unique

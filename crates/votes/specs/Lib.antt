@@ -1,0 +1,12 @@
+pub mod Vote
+pub mod Selection
+pub mod Rows
+pub mod Steps
+pub mod RowLaws
+pub mod Smallest
+pub mod SelectionExt
+pub mod Ways
+pub mod History
+pub mod Safety
+pub mod SafetyWitness
+pub mod Examples

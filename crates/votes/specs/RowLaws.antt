@@ -1,0 +1,41 @@
+-- Laws of the rows of votes.
+use Prim.Native.Nat.{ℕ}
+use mathlib.Core.Bool.{Bool, true, false, not, _||_, cond}
+use mathlib.Core.Path.{_≡_, refl, sym, ap, ap₂}
+use native.Mathlib.Omega.{arith}
+use lib.Dec.{eqb, ltb}
+use borrow.Author.Tests.{eqb-false, eq-eqb, ne-eqb}
+use Rattle.seats.specs.declared.View.{View}
+use Rattle.seats.specs.Sizes.{sizeAllowed, mostFaulty, sizeNumber}
+use Rattle.seats.specs.SizeLaws.{Allowed, sizes-taken}
+use Rattle.votes.specs.declared.Selected.{Selected}
+use Rattle.votes.specs.Rows.{callNumber, answered}
+
+-- 5 is looked at behind 1 and 2.
+pub call-after-sizes : (n f : ℕ) (v : View) → cond (eqb (sizeNumber n f) 0) (cond (eqb (v .0) 0) 5 0) (sizeNumber n f) ≡ callNumber n f v
+unfolding sizeNumber
+call-after-sizes n f v = go (not (sizeAllowed n)) (eqb f 0 || ltb (mostFaulty n) f)
+  where
+    go : (a b : Bool) → _≡_ {A = ℕ} (cond (eqb (cond a 1 (cond b 2 0)) 0) (cond (eqb (v .0) 0) 5 0) (cond a 1 (cond b 2 0))) (cond a 1 (cond b 2 (cond (eqb (v .0) 0) 5 0)))
+    go true b = refl
+    go false true = refl
+    go false false = refl
+
+-- A call that is not refused has n and f as setup takes them, and a view.
+pub call-taken : (n f : ℕ) (v : View) → callNumber n f v ≡ 0 → Allowed n f × (v .0 ≡ 0 → ⊥)
+unfolding sizeNumber
+call-taken n f v e = go (not (sizeAllowed n)) (eqb f 0 || ltb (mostFaulty n) f) (eqb (v .0) 0) refl refl refl e
+  where
+    go : (a b d : Bool) → not (sizeAllowed n) ≡ a → (eqb f 0 || ltb (mostFaulty n) f) ≡ b → eqb (v .0) 0 ≡ d
+        → _≡_ {A = ℕ} (cond a 1 (cond b 2 (cond d 5 0))) 0 → Allowed n f × (v .0 ≡ 0 → ⊥)
+    go true b d ea eb ed z = absurd (omega arith)
+    go false true d ea eb ed z = absurd (omega arith)
+    go false false true ea eb ed z = absurd (omega arith)
+    go false false false ea eb ed z = (sizes-taken n f (ap₂ (λ x y. cond x 1 (cond y 2 0)) ea eb), eqb-false (v .0) 0 ed)
+
+-- What is answered behind the number.
+pub answered-refused : (number : ℕ) (s : Selected) → (number ≡ 0 → ⊥) → Selected.Refused number ≡ answered number s
+answered-refused number s h = sym (ap (λ b. cond b s (Selected.Refused number)) (ne-eqb number 0 h))
+
+pub answered-taken : (number : ℕ) (s : Selected) → number ≡ 0 → s ≡ answered number s
+answered-taken number s h = sym (ap (λ b. cond b s (Selected.Refused number)) (eq-eqb number 0 h))

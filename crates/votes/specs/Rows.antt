@@ -1,0 +1,111 @@
+-- Rows of votes: the leader's table, by seat, and the rows of a request, in a list.
+use Prim.Native.Nat.{ℕ, zero, suc, _+_}
+use mathlib.Core.Bool.{Bool, true, false, not, _&&_, _||_, cond}
+use mathlib.Core.List.{List, [], _∷_}
+use lib.Dec.{eqb, leb, ltb}
+use lib.ListN.{length, getD}
+use Rattle.base.specs.Refusal.{Refusals, first}
+use Rattle.entry.specs.Entry.{zeroEntry}
+use Rattle.entry.specs.Table.{entryAt}
+use Rattle.seats.specs.declared.View.{View}
+use Rattle.seats.specs.Sizes.{sizeAllowed, mostFaulty}
+use Rattle.seats.specs.Mask.{bit}
+use Rattle.votes.specs.declared.Vote.{Vote}
+use Rattle.votes.specs.declared.Votes.{Votes}
+use Rattle.votes.specs.declared.Row.{Row}
+use Rattle.votes.specs.declared.VoteRows.{VoteRows}
+use Rattle.votes.specs.declared.Rows.{Rows}
+use Rattle.votes.specs.declared.Selected.{Selected}
+use Rattle.votes.specs.Vote.{valid}
+use Rattle.votes.specs.Selection.{selection}
+
+-- ---- by seat
+
+abbrev pub votesOf : ℕ → ℕ → List ℕ → List ℕ → List ℕ → Votes
+votesOf c w es ms vs = record { cast = c; verified = w; entries = es; masks = ms; views = vs }
+
+abbrev pub tableOf : ℕ → Votes → VoteRows
+tableOf fs t = record { filled = fs; votes = t }
+
+-- Vote k of 64.
+unfoldable pub voteAt : Votes → ℕ → Vote
+voteAt t k = record {
+  entry = entryAt (t .entries) k;
+  mask = getD (t .masks) k 0;
+  view = record { 0 = getD (t .views) k 0 };
+  cast = bit (t .cast) k;
+  verified = bit (t .verified) k;
+}
+
+-- Seat k's row is filled, and valid for view v: "vote rows that are not valid, count as empty".
+unfoldable pub hasRow : ℕ → ℕ → View → VoteRows → ℕ → Bool
+hasRow n f v t k = bit (t .filled) k && valid n f v (voteAt (t .votes) k)
+
+-- "the selection answers 1 or 2 for a bad n or f, 5 for view 0"
+abbrev pub callRefusals : ℕ → ℕ → View → Refusals
+callRefusals n f v = (1, not (sizeAllowed n)) ∷ (2, eqb f 0 || ltb (mostFaulty n) f) ∷ (5, eqb (v .0) 0) ∷ []
+
+abbrev pub callNumber : ℕ → ℕ → View → ℕ
+callNumber n f v = first (callRefusals n f v)
+
+abbrev pub answered : ℕ → Selected → Selected
+answered number s = cond (eqb number 0) s (Selected.Refused number)
+
+-- The selection over the leader's table.
+unfoldable pub chosen : ℕ → ℕ → View → VoteRows → Selected
+chosen n f v t = answered (callNumber n f v) (Selected.Chosen (selection n f (hasRow n f v t) (voteAt (t .votes))))
+
+-- ---- as a list
+
+-- Row i of a list by value; past the 64th it is blank.
+unfoldable pub rowAt : Rows → ℕ → Row
+rowAt t i = record {
+  seat = record { 0 = getD (t .seats) i 0 };
+  verified = bit (t .verified) i;
+  view = record { 0 = getD (t .views) i 0 };
+  vote = voteAt (t .votes) i;
+}
+
+abbrev pub rowsFrom : Rows → ℕ → ℕ → List Row
+rowsFrom t i zero = []
+rowsFrom t i (suc d) = rowAt t i ∷ rowsFrom t (suc i) d
+
+unfoldable pub listOf : Rows → List Row
+listOf t = rowsFrom t 0 (t .count)
+
+-- The row of seat k, the first where a list names it twice.
+abbrev pub hasSeat : List Row → ℕ → Bool
+hasSeat [] k = false
+hasSeat (r ∷ rs) k = eqb (r .seat .0) k || hasSeat rs k
+
+abbrev pub zeroVote : Vote
+zeroVote = record { entry = zeroEntry; mask = 0; view = record { 0 = 0 }; cast = false; verified = false }
+
+abbrev pub voteOf : List Row → ℕ → Vote
+voteOf [] k = zeroVote
+voteOf (r ∷ rs) k = cond (eqb (r .seat .0) k) (r .vote) (voteOf rs k)
+
+-- "seats .. strictly rising" and "below n", from seat s on
+abbrev pub rising : ℕ → ℕ → List Row → Bool
+rising n s [] = true
+rising n s (r ∷ rs) = (leb s (r .seat .0) && ltb (r .seat .0) n) && rising n (r .seat .0 + 1) rs
+
+-- "a row with mark `-`, another view or an invalid vote" is not sound
+unfoldable pub sound : ℕ → ℕ → View → Row → Bool
+sound n f v r = r .verified && (eqb (r .view .0) (v .0) && valid n f v (r .vote))
+
+abbrev pub allSound : ℕ → ℕ → View → List Row → Bool
+allSound n f v [] = true
+allSound n f v (r ∷ rs) = sound n f v r && allSound n f v rs
+
+-- 15's conditions: "more than n, seats not strictly rising or not below n, or a row with mark `-`, another view or an
+-- invalid vote". "too few rows there are a wait"
+abbrev pub broken : ℕ → ℕ → View → List Row → Bool
+broken n f v rows = ltb n (length rows) || (not (rising n 0 rows) || not (allSound n f v rows))
+
+-- "Called by itself, the selection answers 1 or 2 for a bad n or f, 5 for view 0, and 15 for a table that breaks 15's
+-- conditions on rows".
+unfoldable pub selected : ℕ → ℕ → View → List Row → Selected
+selected n f v rows =
+    answered (first ((1, not (sizeAllowed n)) ∷ (2, eqb f 0 || ltb (mostFaulty n) f) ∷ (5, eqb (v .0) 0) ∷ (15, broken n f v rows) ∷ []))
+    (Selected.Chosen (selection n f (hasSeat rows) (voteOf rows)))

@@ -1,0 +1,13 @@
+-- What the code keeps between the steps.
+use mathlib.Core.Bool.{Bool, cond}
+use mathlib.Core.Option.{Option, none, some}
+use Rattle.entry.specs.declared.Entry.{Entry}
+use Rattle.votes.specs.declared.search.Best.{Best}
+use Rattle.votes.specs.Selection.{smaller}
+
+abbrev pub found : Best → Option Entry
+found b = cond (b .found) (some (b .entry)) none
+
+-- One more entry beside the smallest so far, where it passes.
+abbrev pub lowered : Bool → Entry → Option Entry → Option Entry
+lowered p e o = cond p (some (smaller e o)) o

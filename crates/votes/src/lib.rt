@@ -1,0 +1,62 @@
+// Votes and the selection.
+pub mod valid; // valid.rt: when a vote is valid; 64 votes
+pub mod search; // search.rt: what the steps look for among the rows
+pub mod steps; // steps.rt: the five steps over the leader's table
+pub mod listed; // listed.rt: the selection by itself, over a list of rows
+use entry::table::Entries;
+use entry::Entry;
+use seats::Seat;
+use seats::View;
+
+// nil where it is not cast; its other fields then do not count.
+pub struct Vote {
+    pub entry: Entry,
+    pub mask: u64,
+    pub view: View,
+    pub cast: bool,
+    pub verified: bool,
+}
+
+// 64 votes: the flags are masks, bit k is vote k's.
+pub struct Votes {
+    pub cast: u64,
+    pub verified: u64,
+    pub entries: Entries,
+    pub masks: [u64; 64],
+    pub views: [u32; 64],
+}
+
+// The leader's table: vote k is seat k's, and counts where bit k is set in `filled`.
+pub struct VoteRows {
+    pub filled: u64,
+    pub votes: Votes,
+}
+
+// What a V line says, and what a request carries.
+pub struct Row {
+    pub seat: Seat,
+    pub verified: bool,
+    pub view: View,
+    pub vote: Vote,
+}
+
+// A list of rows by value. Past the 64th only their number is kept.
+pub struct Rows {
+    pub count: usize,
+    pub verified: u64,
+    pub votes: Votes,
+    pub views: [u32; 64],
+    pub seats: [u8; 64],
+}
+
+pub enum Choice {
+    Wait,
+    Free,
+    Forced(Entry),
+}
+
+// The choice, or the number of refusal.
+pub enum Selected {
+    Refused(u8),
+    Chosen(Choice),
+}

@@ -1,0 +1,75 @@
+// The five steps of the selection over the leader's table. Each count of rows is a mask's count of ones.
+ghost use mathlib.Core.Path.{_≡_};
+ghost use Prim.Native.Nat.{_≤_, _<_};
+ghost use Rattle.votes.specs.Selection.{selection};
+ghost use Rattle.votes.specs.Rows.{votesOf, tableOf, voteAt, hasRow, callNumber, chosen};
+use crate::search;
+use crate::Choice;
+use crate::Selected;
+use crate::VoteRows;
+use entry::table;
+use entry::table::Entries;
+use seats::mask;
+use seats::sizes;
+use seats::View;
+
+// 01's steps 1 to 5. Filled rows are counted before they are checked: most calls end there.
+pub(crate) fn five_steps<'a>(filled: u64, cast: u64, verified: u64, entries: &'a Entries, masks: &'a [u64; 64], views: &'a [u32; 64], n: u8, f: u8, v: View) -> Choice
+    requires { ⌜ (0 < n) × (n ≤ 64) ⌝ }
+    ensures { λ r. ⌜ r ≡ selection n f (hasRow n f v (tableOf filled (votesOf cast verified (now (entries .entry)) (now (masks .entry)) (now (views .entry))))) (voteAt (votesOf cast verified (now (entries .entry)) (now (masks .entry)) (now (views .entry)))) ⌝ }
+{
+    let quorum = sizes::quorum(n, f);
+    if u64::count_ones(mask::below(n) & filled) < quorum {
+        return Choice::Wait;
+    }
+    let rows = search::present(filled, cast, verified, entries, masks, views, n, f, v);
+    if u64::count_ones(rows) < quorum {
+        return Choice::Wait;
+    }
+    let votes = rows & cast;
+    if votes == 0 {
+        return Choice::Free;
+    }
+    let w = search::top_view(votes, views, n);
+    let top = search::at_view(votes, views, n, w);
+    if !search::two_among(top, entries, n) {
+        let i = u64::trailing_zeros(top) as usize;
+        return Choice::Forced(table::entry_at(entries, i));
+    }
+    let q = seats::leader(View(w), n);
+    let liar = mask::with_seat(0, q.0 as usize);
+    let others = mask::without(rows, liar);
+    if u64::count_ones(others) < quorum {
+        return Choice::Wait;
+    }
+    search::forced_to(search::smallest_backed(mask::without(top, liar), entries, n, 2 * (f as u32)))
+}
+
+// 1, 2, 5 or 0.
+pub(crate) fn call_number(n: u8, f: u8, v: View) -> u8
+    ensures { λ r. ⌜ r ≡ callNumber n f v ⌝ }
+{
+    let number = sizes::size_number(n, f);
+    base::pick(number == 0, base::pick(v.0 == 0, 5, 0), number)
+}
+
+// The selection over a table that is lent as its arrays.
+pub fn choose_among<'a>(filled: u64, cast: u64, verified: u64, entries: &'a Entries, masks: &'a [u64; 64], views: &'a [u32; 64], n: u8, f: u8, v: View) -> Selected
+    ensures { λ r. ⌜ r ≡ chosen n f v (tableOf filled (votesOf cast verified (now (entries .entry)) (now (masks .entry)) (now (views .entry)))) ⌝ }
+{
+    let number = call_number(n, f, v);
+    if number != 0 {
+        return Selected::Refused(number);
+    }
+    Selected::Chosen(five_steps(filled, cast, verified, entries, masks, views, n, f, v))
+}
+
+impl VoteRows {
+    // The selection over a table by value.
+    pub fn choose(self, n: u8, f: u8, v: View) -> Selected
+        ensures { λ r. ⌜ r ≡ chosen n f v self ⌝ }
+    {
+        let t = self.votes;
+        choose_among(self.filled, t.cast, t.verified, &t.entries, &t.masks, &t.views, n, f, v)
+    }
+}
