@@ -2,10 +2,11 @@
 use Prim.Native.Nat.{ℕ}
 use mathlib.Core.Path.{_≡_}
 use mathlib.Core.List.{List}
+use lib.ListN.{replicate}
 use Rattle.base.specs.Unique.{OneAnswer, one-answer}
 use Rattle.entry.specs.declared.Entry.{Entry}
 use Rattle.entry.specs.Entry.{zeroEntry, bytesOf, same, less, wellFormed}
-use Rattle.entry.specs.Table.{entryAt, withEntry}
+use Rattle.entry.specs.Table.{tableWords, entryAt, withEntry}
 
 pub unique-zero : OneAnswer (λ r. r ≡ zeroEntry)
 unique-zero = one-answer zeroEntry
@@ -21,6 +22,9 @@ unique-bytes-of e = one-answer (bytesOf e)
 
 pub unique-well-formed : (e : Entry) → OneAnswer (λ r. r ≡ wellFormed e)
 unique-well-formed e = one-answer (wellFormed e)
+
+pub unique-no-entries : OneAnswer {A = List ℕ} (λ r. r ≡ replicate tableWords 0)
+unique-no-entries = one-answer (replicate tableWords 0)
 
 pub unique-entry-at : (t : List ℕ) (k : ℕ) → OneAnswer (λ r. r ≡ entryAt t k)
 unique-entry-at t k = one-answer (entryAt t k)

@@ -1,6 +1,7 @@
 // A table of 64 entries, one a seat, as one array of words: whoever keeps entries by seat never sees how wide an entry is.
 ghost use mathlib.Core.Path.{_≡_};
-ghost use Rattle.entry.specs.Table.{entryAt, withEntry};
+ghost use lib.ListN.{replicate};
+ghost use Rattle.entry.specs.Table.{tableWords, entryAt, withEntry};
 use crate::zero;
 use crate::Entry;
 
@@ -10,6 +11,12 @@ pub const SEATS: usize = 64;
 const WORDS: usize = 2 * SEATS;
 
 pub type Entries = [u64; WORDS];
+
+pub fn no_entries() -> Entries
+    ensures { λ r. ⌜ r ≡ replicate tableWords 0 ⌝ }
+{
+    [0; WORDS]
+}
 
 pub fn entry_at(t: &Entries, k: usize) -> Entry
     ensures { λ r. ⌜ r ≡ entryAt (now (t .entry)) k ⌝ }

@@ -13,7 +13,7 @@ use lib.Bits.{bitAnd, bitOr, bitXor, and-shr, and-mod, or-shr, or-mod, xor-shr, 
 use borrow.Author.Tests.{lt-ltb, le-ltb}
 use Rattle.seats.specs.Seats.{b2n, count}
 use Rattle.seats.specs.Count.{count-ext, count-first}
-use Rattle.seats.specs.Mask.{bit, seatsIn, withSeat, without}
+use Rattle.seats.specs.Mask.{bit, seatsIn, withSeat, without, putSeat}
 
 pub bit-half : (m k : ℕ) → bit m (suc k) ≡ bit (m / 2) k
 unfolding bit
@@ -122,3 +122,21 @@ with-at m k j h = ap (λ c. bit (cond c (bitOr m (2 ^ k)) m) j) (lt-ltb k 64 h) 
 pub with-past : (m k : ℕ) → 64 ≤ k → withSeat m k ≡ m
 unfolding withSeat
 with-past m k h = ap (λ c. cond c (bitOr m (2 ^ k)) m) (le-ltb k 64 h)
+
+pub put-at : (m k : ℕ) (on : Bool) (j : ℕ) → k < 64 → bit (putSeat m k on) j ≡ cond (eqb j k) on (bit m j)
+unfolding putSeat
+put-at m k true j h = with-at m k j h ∙ go (bit m j) (eqb j k)
+  where
+    go : (a b : Bool) → (a || b) ≡ cond b true a
+    go true true = refl
+    go true false = refl
+    go false true = refl
+    go false false = refl
+put-at m k false j h =
+    without-at m (withSeat 0 k) j ∙ ap (λ x. bit m j && not x) (with-at 0 k j h ∙ ap (λ x. x || eqb j k) (bit-zero j)) ∙ go (bit m j) (eqb j k)
+  where
+    go : (a b : Bool) → (a && not b) ≡ cond b false a
+    go true true = refl
+    go true false = refl
+    go false true = refl
+    go false false = refl

@@ -5,6 +5,7 @@ pub mod Certificate
 pub mod Count
 pub mod Bits
 pub mod Marks
+pub mod Past
 pub mod SizeLaws
 pub mod Quorums
 pub mod Unique

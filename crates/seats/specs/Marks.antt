@@ -4,7 +4,7 @@ use mathlib.Core.Bool.{Bool, true, false, not, _&&_, _||_, cond}
 use mathlib.Core.Path.{_≡_, refl, sym, ap, ap₂, _∙_, subst}
 use native.Mathlib.Omega.{arith}
 use native.Mathlib.Nat.{pow-suc, lt-of-lt-of-le, lt-of-le-of-lt, zero-lt-suc, le-div-iff-mul-le, one-mul, div-le-self}
-use lib.Dec.{T, T-not, not-T, eqb, eqb→eq, leb, ltb, ltb→lt, nltb→le}
+use lib.Dec.{T, T-not, not-T, eqb, eqb→eq, leb, ltb, ltb→lt, nltb→le, lit<, lit≤}
 use lib.Pow.{pow-mono, pow-pos, pow-lt, shr-shr}
 use lib.Bits.{bitAnd, bitOr, and-le-l, or-lt, xor-lt}
 use lib.Count.{ones, trailingZeros, under}
@@ -102,6 +102,10 @@ marks-count {n} {m} {p} a = ones-count n m (a .below) ∙ count-ext (bit m) p n 
 
 pub marks-seats : {n m : ℕ} {p : ℕ → Bool} → n ≤ 64 → Marks n m p → seatsIn m ≡ count p n
 marks-seats {n} {m} {p} l a = seats-below n m l (a .below) ∙ count-ext (bit m) p n (a .at)
+
+pub seats-none : seatsIn 0 ≡ 0
+unfolding count
+seats-none = seats-below 0 0 (lit≤ tt) (lit< tt)
 
 pub marks-and : (n a b : ℕ) (p q : ℕ → Bool) → Marks n a p → ((k : ℕ) → k < n → bit b k ≡ q k) → Marks n (bitAnd a b) (λ k. p k && q k)
 marks-and n a b p q x y = record {

@@ -26,6 +26,10 @@ withSeat m k = cond (ltb k 64) (bitOr m (2 ^ k)) m
 abbrev pub without : ℕ → ℕ → ℕ
 without a b = bitXor (bitOr a b) b
 
+-- The mask with seat k in it or not.
+unfoldable pub putSeat : ℕ → ℕ → Bool → ℕ
+putSeat m k on = cond on (withSeat m k) (without m (withSeat 0 k))
+
 -- A table has 64 rows: those of the seats below n.
 abbrev pub rowsOf : ℕ → ℕ
 rowsOf n = cond (leb n 64) n 64

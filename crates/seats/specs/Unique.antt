@@ -7,7 +7,7 @@ use Rattle.seats.specs.declared.Seat.{Seat}
 use Rattle.seats.specs.declared.View.{View}
 use Rattle.seats.specs.Seats.{leaderOf}
 use Rattle.seats.specs.Sizes.{mostFaulty, sizeNumber, seatNumber, quorum}
-use Rattle.seats.specs.Mask.{bit, within, seatsIn, withSeat, without, rowsOf, mask}
+use Rattle.seats.specs.Mask.{bit, within, seatsIn, withSeat, without, putSeat, rowsOf, mask}
 use Rattle.seats.specs.Certificate.{goodCertificate}
 
 pub unique-leader : (v : View) (n : ℕ) → OneAnswer (λ r. r ≡ leaderOf v n)
@@ -33,6 +33,9 @@ unique-with-seat m k = one-answer (withSeat m k)
 
 pub unique-without : (a b : ℕ) → OneAnswer (λ r. r ≡ without a b)
 unique-without a b = one-answer (without a b)
+
+pub unique-put : (m k : ℕ) (on : Bool) → OneAnswer (λ r. r ≡ putSeat m k on)
+unique-put m k on = one-answer (putSeat m k on)
 
 pub unique-seats-in : (m : ℕ) → OneAnswer (λ r. r ≡ seatsIn m)
 unique-seats-in m = one-answer (seatsIn m)

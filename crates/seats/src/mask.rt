@@ -2,7 +2,7 @@
 ghost use mathlib.Core.Path.{_≡_};
 ghost use mathlib.Core.Bool.{true};
 ghost use Prim.Native.Nat.{_≤_};
-ghost use Rattle.seats.specs.Mask.{bit, within, seatsIn, withSeat, without, rowsOf, mask};
+ghost use Rattle.seats.specs.Mask.{bit, within, seatsIn, withSeat, without, putSeat, rowsOf, mask};
 
 // Is seat k in the mask.
 pub fn has(m: u64, k: usize) -> bool
@@ -23,6 +23,13 @@ pub fn without(a: u64, b: u64) -> u64
     ensures { λ r. ⌜ r ≡ without a b ⌝ }
 {
     (a | b) ^ b
+}
+
+// The mask with seat k in it or not.
+pub fn put(m: u64, k: usize, on: bool) -> u64
+    ensures { λ r. ⌜ r ≡ putSeat m k on ⌝ }
+{
+    if on { with_seat(m, k) } else { without(m, with_seat(0, k)) }
 }
 
 // How many distinct seats.

@@ -7,7 +7,7 @@ use mathlib.Core.Path.{_≡_, refl, sym, ap, ap₂, _∙_, subst}
 use native.Mathlib.Omega.{arith}
 use native.Mathlib.Decide.{ℕ-discrete}
 use lib.Dec.{T, eqb, ltb, leb}
-use lib.Count.{ones, onesIn, trailingZeros}
+use lib.Count.{trailingZeros}
 use borrow.Author.Tests.{eq-eqb, ne-eqb, lt-ltb, le-ltb}
 use Rattle.base.specs.Tests.{is-true, is-false, true≢false}
 use Rattle.entry.specs.declared.Entry.{Entry}
@@ -15,17 +15,13 @@ use Rattle.entry.specs.Entry.{same}
 use Rattle.seats.specs.Seats.{leader, count, someSeat, highest}
 use Rattle.seats.specs.Count.{count-ext, count-mono, count-pos, highest-ext, highest-reached, le-highest}
 use Rattle.seats.specs.Sizes.{quorum}
-use Rattle.seats.specs.Mask.{bit, mask}
-use Rattle.seats.specs.Marks.{Marks, marks-count, marks-mask, marks-lowest, marks-pos}
+use Rattle.seats.specs.Mask.{bit, mask, seatsIn}
+use Rattle.seats.specs.Marks.{Marks, marks-seats, seats-none, marks-mask, marks-lowest, marks-pos}
 use Rattle.votes.specs.declared.Vote.{Vote}
 use Rattle.votes.specs.declared.Choice.{Choice}
 use Rattle.votes.specs.Selection.{smallest, forcedTo, selection, isCast, isAt, topView, twoAt, isOther, otherAt, rowsFor, afterTwo, atTop, entryOf}
 use Rattle.votes.specs.Smallest.{smallest-ext, smallest-some, smallest-no}
 use Rattle.votes.proofs.Pairs.{two-alike}
-
-ones-zero : ones 0 ≡ 0
-unfolding ones onesIn
-ones-zero = refl
 
 positive : (m : ℕ) → (m ≡ 0 → ⊥) → 0 < m
 positive zero h = absurd (h refl)
@@ -36,20 +32,20 @@ module _ (n f : ℕ) (has : ℕ → Bool) (vote : ℕ → Vote) where
   pub record Counted : Type 0 where
     pub rows : ℕ
     pub these : Marks n rows has
-    pub enough : quorum n f ≤ ones rows
+    pub enough : quorum n f ≤ seatsIn rows
     pub votes : ℕ
     pub cast : Marks n votes (isCast n f has vote)
 
   -- Behind step 2: some are cast, w is their highest view, and these are at w.
   pub record Topped : Type 0 where
     pub counted : Counted
-    pub room : n ≤ 64
     pub some : counted .votes ≡ 0 → ⊥
     pub w : ℕ
     pub highest-is : w ≡ highest (λ k. cond (bit (counted .votes) k) (vote k .view .0) 0) n
     pub top : ℕ
     pub at-top : Marks n top (isAt n f has vote w)
 
+module _ (n f : ℕ) (has : ℕ → Bool) (vote : ℕ → Vote) (room : n ≤ 64) where
   abbrev entry : ℕ → Entry
   entry = entryOf n f has vote
 
@@ -57,27 +53,27 @@ module _ (n f : ℕ) (has : ℕ → Bool) (vote : ℕ → Vote) where
   view k = vote k .view .0
 
   -- 1: fewer than n − f rows, counted by a mask of at least those.
-  pub waits-few : (m : ℕ) (p : ℕ → Bool) → Marks n m p → ((k : ℕ) → T (has k) → T (p k)) → ones m < quorum n f → Choice.Wait ≡ selection n f has vote
+  pub waits-few : (m : ℕ) (p : ℕ → Bool) → Marks n m p → ((k : ℕ) → T (has k) → T (p k)) → seatsIn m < quorum n f → Choice.Wait ≡ selection n f has vote
   unfolding selection
   waits-few m p a h l =
-      let few : count has n < quorum n f = omega (arith, marks-count a, count-mono has p n (λ k i. h k)) in
+      let few : count has n < quorum n f = omega (arith, marks-seats room a, count-mono has p n (λ k i. h k)) in
       sym (ap (λ b. cond b Choice.Wait (cond (eqb (count (isCast n f has vote) n) 0) Choice.Free (atTop n f has vote (topView n f has vote)))) (lt-ltb (count has n) (quorum n f) few))
 
-  past-1 : Counted → selection n f has vote ≡ cond (eqb (count (isCast n f has vote) n) 0) Choice.Free (atTop n f has vote (topView n f has vote))
+  past-1 : Counted n f has vote → selection n f has vote ≡ cond (eqb (count (isCast n f has vote) n) 0) Choice.Free (atTop n f has vote (topView n f has vote))
   unfolding selection
   past-1 c =
       ap (λ b. cond b Choice.Wait (cond (eqb (count (isCast n f has vote) n) 0) Choice.Free (atTop n f has vote (topView n f has vote))))
-      (le-ltb (count has n) (quorum n f) (omega (arith, c .enough, marks-count (c .these))))
+      (le-ltb (count has n) (quorum n f) (omega (arith, c .enough, marks-seats room (c .these))))
 
   -- 2: all nil.
-  pub frees : (c : Counted) → c .votes ≡ 0 → Choice.Free ≡ selection n f has vote
+  pub frees : (c : Counted n f has vote) → c .votes ≡ 0 → Choice.Free ≡ selection n f has vote
   frees c z =
-      sym (past-1 c ∙ ap (λ b. cond b Choice.Free (atTop n f has vote (topView n f has vote))) (eq-eqb _ _ (sym (marks-count (c .cast)) ∙ ap ones z ∙ ones-zero)))
+      sym (past-1 c ∙ ap (λ b. cond b Choice.Free (atTop n f has vote (topView n f has vote))) (eq-eqb _ _ (sym (marks-seats room (c .cast)) ∙ ap seatsIn z ∙ seats-none)))
 
-  module _ (t : Topped) where
+  module _ (t : Topped n f has vote) where
     -- Some row is cast.
     first-cast : (trailingZeros 64 (t .counted .votes) < n) × (isCast n f has vote (trailingZeros 64 (t .counted .votes)) ≡ true)
-    first-cast = marks-lowest n (t .counted .votes) (isCast n f has vote) (t .room) (t .counted .cast) (positive (t .counted .votes) (t .some))
+    first-cast = marks-lowest n (t .counted .votes) (isCast n f has vote) room (t .counted .cast) (positive (t .counted .votes) (t .some))
 
     w-is : topView n f has vote ≡ t .w
     unfolding topView
@@ -125,7 +121,7 @@ module _ (n f : ℕ) (has : ℕ → Bool) (vote : ℕ → Vote) where
 
     first-top : (trailingZeros 64 (t .top) < n) × (isAt n f has vote (t .w) (trailingZeros 64 (t .top)) ≡ true)
     first-top =
-        marks-lowest n (t .top) (isAt n f has vote (t .w)) (t .room) (t .at-top)
+        marks-lowest n (t .top) (isAt n f has vote (t .w)) room (t .at-top)
         (marks-pos n (t .top) (some-top .0) (isAt n f has vote (t .w)) (t .at-top) (some-top .1) (some-top .2))
 
     pub first-low : trailingZeros 64 (t .top) < n
@@ -168,24 +164,24 @@ module _ (n f : ℕ) (has : ℕ → Bool) (vote : ℕ → Vote) where
         backed k = otherAt n f has vote (t .w) k && leb (2 * f) (rowsFor n f has vote (t .w) (entry k))
 
         -- 4: fewer than n − f rows of seats other than w's leader.
-        pub waits-others : ones others < quorum n f → Choice.Wait ≡ selection n f has vote
+        pub waits-others : seatsIn others < quorum n f → Choice.Wait ≡ selection n f has vote
         unfolding afterTwo
         waits-others h =
             sym
             (past-3
-            ∙ ap (λ x. cond x Choice.Wait (forcedTo (smallest backed entry n))) (lt-ltb (count (isOther n f has vote (t .w)) n) (quorum n f) (omega (arith, marks-count mo))))
+            ∙ ap (λ x. cond x Choice.Wait (forcedTo (smallest backed entry n))) (lt-ltb (count (isOther n f has vote (t .w)) n) (quorum n f) (omega (arith, marks-seats room mo))))
 
         -- 5: the smallest entry that 2f of them are for.
-        pub settles : quorum n f ≤ ones others → (left : ℕ) → Marks n left (otherAt n f has vote (t .w)) → (o : Option Entry)
-            → o ≡ smallest (λ k. bit left k && leb (2 * f) (ones (mask (λ j. bit left j && same (entry j) (entry k)) n))) entry n
+        pub settles : quorum n f ≤ seatsIn others → (left : ℕ) → Marks n left (otherAt n f has vote (t .w)) → (o : Option Entry)
+            → o ≡ smallest (λ k. bit left k && leb (2 * f) (seatsIn (mask (λ j. bit left j && same (entry j) (entry k)) n))) entry n
             → forcedTo o ≡ selection n f has vote
         unfolding afterTwo rowsFor
         settles h left ml o eo =
             sym
             (past-3
-            ∙ ap (λ x. cond x Choice.Wait (forcedTo (smallest backed entry n))) (le-ltb (count (isOther n f has vote (t .w)) n) (quorum n f) (omega (arith, marks-count mo)))
+            ∙ ap (λ x. cond x Choice.Wait (forcedTo (smallest backed entry n))) (le-ltb (count (isOther n f has vote (t .w)) n) (quorum n f) (omega (arith, marks-seats room mo)))
             ∙ ap forcedTo (sym (eo ∙ smallest-ext _ _ entry entry n (λ k l. ap₂ (λ x y. x && leb (2 * f) y) (ml .at k l) (backing (entry k))) (λ k l s. refl))))
           where
-            backing : (y : Entry) → ones (mask (λ j. bit left j && same (entry j) y) n) ≡ rowsFor n f has vote (t .w) y
+            backing : (y : Entry) → seatsIn (mask (λ j. bit left j && same (entry j) y) n) ≡ rowsFor n f has vote (t .w) y
             backing y =
-                marks-count (marks-mask n (λ j. bit left j && same (entry j) y)) ∙ count-ext _ _ n (λ j l. ap (λ x. x && same (entry j) y) (ml .at j l))
+                marks-seats room (marks-mask n (λ j. bit left j && same (entry j) y)) ∙ count-ext _ _ n (λ j l. ap (λ x. x && same (entry j) y) (ml .at j l))

@@ -3,13 +3,13 @@ use Prim.Native.Nat.{ℕ, zero, suc, _+_}
 use mathlib.Core.Bool.{Bool, true, false, not, _&&_, _||_, cond}
 use mathlib.Core.List.{List, [], _∷_}
 use lib.Dec.{eqb, leb, ltb}
-use lib.ListN.{length, getD}
+use lib.ListN.{length, getD, set, replicate}
 use Rattle.base.specs.Refusal.{Refusals, first}
 use Rattle.entry.specs.Entry.{zeroEntry}
-use Rattle.entry.specs.Table.{entryAt}
+use Rattle.entry.specs.Table.{tableWords, entryAt, withEntry}
 use Rattle.seats.specs.declared.View.{View}
 use Rattle.seats.specs.Sizes.{sizeAllowed, mostFaulty}
-use Rattle.seats.specs.Mask.{bit}
+use Rattle.seats.specs.Mask.{bit, withSeat, putSeat}
 use Rattle.votes.specs.declared.Vote.{Vote}
 use Rattle.votes.specs.declared.Votes.{Votes}
 use Rattle.votes.specs.declared.Row.{Row}
@@ -55,23 +55,20 @@ answered number s = cond (eqb number 0) s (Selected.Refused number)
 unfoldable pub chosen : ℕ → ℕ → View → VoteRows → Selected
 chosen n f v t = answered (callNumber n f v) (Selected.Chosen (selection n f (hasRow n f v t) (voteAt (t .votes))))
 
+-- A table with no row.
+abbrev pub noVotes : VoteRows
+noVotes = tableOf 0 (votesOf 0 0 (replicate tableWords 0) (replicate 64 0) (replicate 64 0))
+
+-- "V vote: fills the sender's row." There is no row past the 64th.
+unfoldable pub withVote : VoteRows → ℕ → Vote → VoteRows
+withVote t k x =
+    cond (ltb k 64)
+    (tableOf (withSeat (t .filled) k)
+    (votesOf (putSeat (t .votes .cast) k (x .cast)) (putSeat (t .votes .verified) k (x .verified))
+    (withEntry (t .votes .entries) k (x .entry)) (set (t .votes .masks) k (x .mask)) (set (t .votes .views) k (x .view .0))))
+    t
+
 -- ---- as a list
-
--- Row i of a list by value; past the 64th it is blank.
-unfoldable pub rowAt : Rows → ℕ → Row
-rowAt t i = record {
-  seat = record { 0 = getD (t .seats) i 0 };
-  verified = bit (t .verified) i;
-  view = record { 0 = getD (t .views) i 0 };
-  vote = voteAt (t .votes) i;
-}
-
-abbrev pub rowsFrom : Rows → ℕ → ℕ → List Row
-rowsFrom t i zero = []
-rowsFrom t i (suc d) = rowAt t i ∷ rowsFrom t (suc i) d
-
-unfoldable pub listOf : Rows → List Row
-listOf t = rowsFrom t 0 (t .count)
 
 -- The row of seat k, the first where a list names it twice.
 abbrev pub hasSeat : List Row → ℕ → Bool
@@ -109,3 +106,35 @@ unfoldable pub selected : ℕ → ℕ → View → List Row → Selected
 selected n f v rows =
     answered (first ((1, not (sizeAllowed n)) ∷ (2, eqb f 0 || ltb (mostFaulty n) f) ∷ (5, eqb (v .0) 0) ∷ (15, broken n f v rows) ∷ []))
     (Selected.Chosen (selection n f (hasSeat rows) (voteOf rows)))
+
+-- ---- the same, gathered one row after the other
+
+unfoldable pub noRows : ℕ → ℕ → View → Rows
+noRows n f v = record { view = v; next = 0; count = 0; n = n; f = f; broken = false; table = noVotes }
+
+-- More than 64 are 65.
+abbrev pub oneMore : ℕ → ℕ
+oneMore c = cond (ltb c 65) (c + 1) c
+
+unfoldable pub added : Rows → Row → Rows
+added t r = record {
+  view = t .view;
+  next = r .seat .0 + 1;
+  count = oneMore (t .count);
+  n = t .n;
+  f = t .f;
+  broken = t .broken || not ((leb (t .next) (r .seat .0) && ltb (r .seat .0) (t .n)) && sound (t .n) (t .f) (t .view) r);
+  table = withVote (t .table) (r .seat .0) (r .vote);
+}
+
+abbrev pub gathered : Rows → List Row → Rows
+gathered t [] = t
+gathered t (r ∷ rs) = gathered (added t r) rs
+
+unfoldable pub selectedFrom : Rows → Selected
+selectedFrom t =
+    answered
+    (first
+    ((1, not (sizeAllowed (t .n))) ∷ (2, eqb (t .f) 0 || ltb (mostFaulty (t .n)) (t .f)) ∷ (5, eqb (t .view .0) 0) ∷ (15, ltb (t .n) (t .count) || t .broken)
+    ∷ []))
+    (Selected.Chosen (selection (t .n) (t .f) (bit (t .table .filled)) (voteAt (t .table .votes))))

@@ -2,7 +2,7 @@
 pub mod valid; // valid.rt: when a vote is valid; 64 votes
 pub mod search; // search.rt: what the steps look for among the rows
 pub mod steps; // steps.rt: the five steps over the leader's table
-pub mod listed; // listed.rt: the selection by itself, over a list of rows
+pub mod gather; // gather.rt: tables of votes; the selection by itself, over rows gathered one by one
 use entry::table::Entries;
 use entry::Entry;
 use seats::Seat;
@@ -40,13 +40,18 @@ pub struct Row {
     pub vote: Vote,
 }
 
-// A list of rows by value. Past the 64th only their number is kept.
+// Rows gathered one after the other, for n, f and the view that they are collected for.
 pub struct Rows {
-    pub count: usize,
-    pub verified: u64,
-    pub votes: Votes,
-    pub views: [u32; 64],
-    pub seats: [u8; 64],
+    pub view: View,
+    // The lowest seat that the next row may have.
+    pub next: u32,
+    // How many, 65 where there are more than 64.
+    pub count: u32,
+    pub n: u8,
+    pub f: u8,
+    // A row was out of order, at or above n, not marked `+`, of another view or not valid.
+    pub broken: bool,
+    pub table: VoteRows,
 }
 
 pub enum Choice {

@@ -3,12 +3,11 @@ ghost use mathlib.Core.Path.{_≡_};
 ghost use mathlib.Core.Bool.{_&&_, not, cond};
 ghost use Prim.Native.Nat.{_≤_};
 ghost use lib.Dec.{eqb, leb};
-ghost use lib.Count.{ones};
 ghost use lib.ListN.{getD};
 ghost use Rattle.entry.specs.Entry.{same};
 ghost use Rattle.entry.specs.Table.{entryAt};
 ghost use Rattle.seats.specs.Seats.{someSeat, highest};
-ghost use Rattle.seats.specs.Mask.{bit, mask};
+ghost use Rattle.seats.specs.Mask.{bit, mask, seatsIn};
 ghost use Rattle.votes.specs.Selection.{smallest, forcedTo};
 ghost use Rattle.votes.specs.Rows.{votesOf, tableOf, hasRow};
 ghost use Rattle.votes.specs.Steps.{found, lowered};
@@ -128,15 +127,15 @@ pub(crate) fn lower(passes: bool, e: Entry, b: Best) -> Best
 // How many rows are for an entry, counted only where it is asked for.
 pub(crate) fn backing_if<'a>(c: bool, rows: u64, entries: &'a Entries, n: u8, e: Entry) -> u32
     requires { ⌜ n ≤ 64 ⌝ }
-    ensures { λ r. ⌜ r ≡ cond c (ones (mask (λ k. bit rows k && same (entryAt (now (entries .entry)) k) e) n)) 0 ⌝ }
+    ensures { λ r. ⌜ r ≡ cond c (seatsIn (mask (λ k. bit rows k && same (entryAt (now (entries .entry)) k) e) n)) 0 ⌝ }
 {
-    if c { u64::count_ones(holding(rows, entries, n, e)) } else { 0 }
+    if c { mask::seats_in(holding(rows, entries, n, e)) } else { 0 }
 }
 
 // The smallest entry that at least `need` of the rows are for.
 pub(crate) fn smallest_backed<'a>(rows: u64, entries: &'a Entries, n: u8, need: u32) -> Best
     requires { ⌜ n ≤ 64 ⌝ }
-    ensures { λ r. ⌜ found r ≡ smallest (λ k. bit rows k && leb need (ones (mask (λ j. bit rows j && same (entryAt (now (entries .entry)) j) (entryAt (now (entries .entry)) k)) n))) (entryAt (now (entries .entry))) n ⌝ }
+    ensures { λ r. ⌜ found r ≡ smallest (λ k. bit rows k && leb need (seatsIn (mask (λ j. bit rows j && same (entryAt (now (entries .entry)) j) (entryAt (now (entries .entry)) k)) n))) (entryAt (now (entries .entry))) n ⌝ }
 {
     let mut i: usize = 0;
     let mut b = Best { found: false, entry: entry::zero() };

@@ -1,8 +1,10 @@
 // The five steps of the selection over the leader's table. Each count of rows is a mask's count of ones.
 ghost use mathlib.Core.Path.{_≡_};
-ghost use Prim.Native.Nat.{_≤_, _<_};
+ghost use Prim.Native.Nat.{_≤_, _<_, _^_};
+ghost use Rattle.seats.specs.Mask.{bit};
 ghost use Rattle.votes.specs.Selection.{selection};
-ghost use Rattle.votes.specs.Rows.{votesOf, tableOf, voteAt, hasRow, callNumber, chosen};
+ghost use Rattle.votes.specs.Rows.{votesOf, tableOf, voteAt, callNumber, chosen};
+ghost use Rattle.votes.specs.Steps.{bareVotes};
 use crate::search;
 use crate::Choice;
 use crate::Selected;
@@ -13,17 +15,13 @@ use seats::mask;
 use seats::sizes;
 use seats::View;
 
-// 01's steps 1 to 5. Filled rows are counted before they are checked: most calls end there.
-pub(crate) fn five_steps<'a>(filled: u64, cast: u64, verified: u64, entries: &'a Entries, masks: &'a [u64; 64], views: &'a [u32; 64], n: u8, f: u8, v: View) -> Choice
-    requires { ⌜ (0 < n) × (n ≤ 64) ⌝ }
-    ensures { λ r. ⌜ r ≡ selection n f (hasRow n f v (tableOf filled (votesOf cast verified (now (entries .entry)) (now (masks .entry)) (now (views .entry))))) (voteAt (votesOf cast verified (now (entries .entry)) (now (masks .entry)) (now (views .entry)))) ⌝ }
+// 01's steps over the rows of a mask. Marks and certificates of votes play no part any more.
+pub(crate) fn five_steps<'a>(rows: u64, cast: u64, entries: &'a Entries, views: &'a [u32; 64], n: u8, f: u8) -> Choice
+    requires { ⌜ (0 < n) × (n ≤ 64) × (rows < 2 ^ n) ⌝ }
+    ensures { λ r. ⌜ r ≡ selection n f (bit rows) (voteAt (bareVotes cast (now (entries .entry)) (now (views .entry)))) ⌝ }
 {
     let quorum = sizes::quorum(n, f);
-    if u64::count_ones(mask::below(n) & filled) < quorum {
-        return Choice::Wait;
-    }
-    let rows = search::present(filled, cast, verified, entries, masks, views, n, f, v);
-    if u64::count_ones(rows) < quorum {
+    if mask::seats_in(rows) < quorum {
         return Choice::Wait;
     }
     let votes = rows & cast;
@@ -39,7 +37,7 @@ pub(crate) fn five_steps<'a>(filled: u64, cast: u64, verified: u64, entries: &'a
     let q = seats::leader(View(w), n);
     let liar = mask::with_seat(0, q.0 as usize);
     let others = mask::without(rows, liar);
-    if u64::count_ones(others) < quorum {
+    if mask::seats_in(others) < quorum {
         return Choice::Wait;
     }
     search::forced_to(search::smallest_backed(mask::without(top, liar), entries, n, 2 * (f as u32)))
@@ -61,7 +59,12 @@ pub fn choose_among<'a>(filled: u64, cast: u64, verified: u64, entries: &'a Entr
     if number != 0 {
         return Selected::Refused(number);
     }
-    Selected::Chosen(five_steps(filled, cast, verified, entries, masks, views, n, f, v))
+    // Filled rows are counted before they are checked: most calls end there.
+    if mask::seats_in(mask::below(n) & filled) < sizes::quorum(n, f) {
+        return Selected::Chosen(Choice::Wait);
+    }
+    let rows = search::present(filled, cast, verified, entries, masks, views, n, f, v);
+    Selected::Chosen(five_steps(rows, cast, entries, views, n, f))
 }
 
 impl VoteRows {

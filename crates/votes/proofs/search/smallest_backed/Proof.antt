@@ -5,11 +5,10 @@ use mathlib.Core.List.{List}
 use mathlib.Core.Option.{Option}
 use native.Mathlib.Omega.{arith}
 use lib.Dec.{leb}
-use lib.Count.{ones}
 use Rattle.entry.specs.declared.Entry.{Entry}
 use Rattle.entry.specs.Entry.{same}
 use Rattle.entry.specs.Table.{entryAt}
-use Rattle.seats.specs.Mask.{bit, mask}
+use Rattle.seats.specs.Mask.{bit, mask, seatsIn}
 use Rattle.votes.specs.Selection.{smallest}
 use Rattle.votes.specs.Smallest.{smallest-none, smallest-more}
 use Rattle.votes.specs.Steps.{found, lowered}
@@ -26,7 +25,7 @@ use Rattle.votes.proofs.search.lower.Reads as lower-reads
 
 -- How many rows of the mask are for an entry.
 abbrev rowsFor : ℕ → List ℕ → ℕ → Entry → ℕ
-rowsFor rows entries n e = ones (mask (λ k. bit rows k && same (entryAt entries k) e) n)
+rowsFor rows entries n e = seatsIn (mask (λ k. bit rows k && same (entryAt entries k) e) n)
 
 abbrev backed : ℕ → List ℕ → ℕ → ℕ → ℕ → Bool
 backed rows entries n need k = bit rows k && leb need (rowsFor rows entries n (entryAt entries k))

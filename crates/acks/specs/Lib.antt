@@ -1,0 +1,5 @@
+pub mod Acks
+pub mod RowLaws
+pub mod MostLaws
+pub mod MarginLaws
+pub mod Unique
