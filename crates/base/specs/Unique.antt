@@ -1,5 +1,8 @@
 -- 01: "its contract leaves one possible answer for each input".
+use Prim.Native.Nat.{ℕ}
+use mathlib.Core.Bool.{Bool, cond}
 use mathlib.Core.Path.{_≡_, sym, _∙_}
+use Rattle.base.specs.Choosing.{larger}
 
 -- Any two answers that meet the contract are the same answer.
 abbrev pub OneAnswer : {A : Type 0} → (A → Type 0) → Type 0
@@ -8,3 +11,10 @@ OneAnswer {A} contract = (r s : A) → contract r → contract s → r ≡ s
 -- A contract that says what the answer is leaves one.
 pub one-answer : {A : Type 0} (d : A) → OneAnswer (λ r. r ≡ d)
 one-answer d r s p q = p ∙ sym q
+
+-- ---- of this crate's own functions
+pub unique-pick : {A : Type 0} (c : Bool) (a b : A) → OneAnswer (λ r. r ≡ cond c a b)
+unique-pick c a b = one-answer (cond c a b)
+
+pub unique-larger : (a b : ℕ) → OneAnswer (λ r. r ≡ larger a b)
+unique-larger a b = one-answer (larger a b)

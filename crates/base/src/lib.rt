@@ -1,7 +1,6 @@
 // Choosing between two numbers without a branch in the caller, one function a width.
 ghost use mathlib.Core.Path.{_≡_};
 ghost use mathlib.Core.Bool.{cond};
-ghost use lib.Dec.{ltb};
 ghost use Rattle.base.specs.Choosing.{larger};
 
 // Numbers of refusal, seats and sizes.
@@ -13,13 +12,6 @@ pub fn pick(c: bool, a: u8, b: u8) -> u8
 
 // Counts of seats and views.
 pub fn pick_count(c: bool, a: u32, b: u32) -> u32
-    ensures { λ r. ⌜ r ≡ cond c a b ⌝ }
-{
-    if c { a } else { b }
-}
-
-// Masks.
-pub fn pick_mask(c: bool, a: u64, b: u64) -> u64
     ensures { λ r. ⌜ r ≡ cond c a b ⌝ }
 {
     if c { a } else { b }

@@ -2,8 +2,8 @@
 ghost use mathlib.Core.Path.{_≡_};
 ghost use lib.ListN.{replicate};
 ghost use Rattle.entry.specs.Table.{tableWords, entryAt, withEntry};
-use crate::zero;
 use crate::Entry;
+use crate::zero;
 
 // Seats of a table, and the words that they take.
 pub const SEATS: usize = 64;

@@ -1,11 +1,11 @@
 -- Laws of one mask: its bits, and the machine's count of ones as the number of distinct seats.
 use mathlib.Core.Path.{_≡_, refl, sym, ap, ap₂, _∙_}
 use mathlib.Core.Bool.{Bool, true, false, not, _&&_, _||_, cond}
-use Prim.Native.Nat.{ℕ, zero, suc, _+_, _*_, _/_, _%_, _^_, _≤_, _<_}
+use Prim.Native.Nat.{ℕ, zero, suc, _+_, _/_, _%_, _^_, _≤_, _<_}
 use native.Mathlib.Omega.{arith}
 use native.Mathlib.Nat.{div-div-eq-div-mul, pow-suc, mod-lt, mul-comm, div-one, div-eq-of-lt, lt-of-lt-of-le}
 use native.Mathlib.Numerals.{add-one}
-use lib.Dec.{eqb, ltb, lit<, eqb·suc-suc, eqb·suc-zero, eqb·zero-suc}
+use lib.Dec.{eqb, lit<, eqb·suc-suc, eqb·suc-zero, eqb·zero-suc}
 use lib.Count.{onesIn, ones, ones-step}
 use lib.Pow.{shr-lt, pow-mono}
 use lib.Arith.{lt-one}

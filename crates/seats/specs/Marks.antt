@@ -10,7 +10,7 @@ use lib.Bits.{bitAnd, bitOr, and-le-l, or-lt, xor-lt}
 use lib.Count.{ones, trailingZeros, under}
 use mir.Val.{boolByte}
 use borrow.Author.Tests.{le-leb, leb-true, ltb-true, ltb-false, lt-ltb}
-use mathlib.Core.Logic.{_⊎_, inl, inr}
+use mathlib.Core.Logic.{inl, inr}
 use Rattle.base.specs.Tests.{and-l, and-r, and-i, T-dec, is-true, true≢false}
 use Rattle.seats.specs.Seats.{b2n, count}
 use Rattle.seats.specs.Count.{count-ext, count-mono, count-drop}

@@ -1,18 +1,18 @@
 -- The paper's three quorum facts, once for all n and f with 5f − 1 ≤ n and f ≥ 1, and whom a certificate must have among its signers.
-use mathlib.Core.Path.{_≡_, refl, sym, subst}
-use mathlib.Core.Bool.{Bool, true, false, not, _&&_, _||_, cond}
+use mathlib.Core.Path.{subst}
+use mathlib.Core.Bool.{Bool, not, _&&_, _||_, cond}
 use Prim.Native.Nat.{ℕ, _+_, _-_, _*_, _^_, _≤_, _<_}
 use native.Mathlib.Omega.{arith}
-use lib.Dec.{T, eqb, ltb, leb, leb→le, ltb→lt, lit<, lit≤}
+use lib.Dec.{T, eqb, ltb, leb, leb→le, ltb→lt, lit≤}
 use borrow.Author.Tests.{ne-eqb}
 use Rattle.base.specs.Tests.{and-l, and-r}
 use Rattle.seats.specs.declared.View.{View}
 use Rattle.seats.specs.Seats.{count}
 use Rattle.seats.specs.Count.{count-le, count-union, count-minus, count-some, meet}
-use Rattle.seats.specs.Sizes.{bears, quorum}
+use Rattle.seats.specs.Sizes.{fewest, bears, quorum}
 use Rattle.seats.specs.Mask.{bit, within, seatsIn}
 use Rattle.seats.specs.Bits.{seats-below}
-use Rattle.seats.specs.Certificate.{goodCertificate}
+use Rattle.seats.specs.Certificate.{signers, goodCertificate}
 
 -- n and f as the rules allow, and at most f faulty seats.
 pub record House (n f : ℕ) (bad : ℕ → Bool) : Type 0 where
@@ -22,7 +22,7 @@ pub record House (n f : ℕ) (bad : ℕ → Bool) : Type 0 where
 
 module _ {n f : ℕ} {bad : ℕ → Bool} (house : House n f bad) where
   large : 5 * f ≤ n + 1
-  large = omega (arith, leb→le (5 * f - 1) n (house .fits), house .some)
+  large = omega (arith, leb→le (fewest f) n (house .fits), house .some)
 
   -- Two sets of n − f seats share a correct seat.
   pub quorums-meet : (p q : ℕ → Bool) → quorum n f ≤ count p n → quorum n f ≤ count q n → (k : ℕ) × (k < n) × T (p k) × T (q k) × T (not (bad k))
@@ -43,11 +43,11 @@ module _ {n f : ℕ} {bad : ℕ → Bool} (house : House n f bad) where
   pub correct-signer : (u : View) (m : ℕ) → n ≤ 64 → 1 < u .0 → T (goodCertificate n f u m) → (k : ℕ) × (k < n) × T (bit m k) × T (not (bad k))
   unfolding goodCertificate
   correct-signer u m l v g =
-      let c : T (ltb 1 (u .0) && (within m n && leb (f + 1) (seatsIn m))) =
-          subst (λ b. T (cond b (eqb m 0) (ltb 1 (u .0) && (within m n && leb (f + 1) (seatsIn m))))) (ne-eqb (u .0) 1 (λ e. omega arith)) g in
-      let d = and-r (ltb 1 (u .0)) (within m n && leb (f + 1) (seatsIn m)) c in
-      let low = ltb→lt m (2 ^ n) (and-l (within m n) (leb (f + 1) (seatsIn m)) d) in
-      let many = leb→le (f + 1) (seatsIn m) (and-r (within m n) (leb (f + 1) (seatsIn m)) d) in
+      let c : T (ltb 1 (u .0) && (within m n && leb (signers f) (seatsIn m))) =
+      subst (λ b. T (cond b (eqb m 0) (ltb 1 (u .0) && (within m n && leb (signers f) (seatsIn m))))) (ne-eqb (u .0) 1 (λ e. omega arith)) g in
+      let d = and-r (ltb 1 (u .0)) (within m n && leb (signers f) (seatsIn m)) c in
+      let low = ltb→lt m (2 ^ n) (and-l (within m n) (leb (signers f) (seatsIn m)) d) in
+      let many = leb→le (signers f) (seatsIn m) (and-r (within m n) (leb (signers f) (seatsIn m)) d) in
       let s = count-some (λ k. bit m k && not (bad k)) n (omega (arith, seats-below n m l low, count-minus (bit m) bad n, house .few)) in
       (s .0, s .1, and-l (bit m (s .0)) (not (bad (s .0))) (s .2), and-r (bit m (s .0)) (not (bad (s .0))) (s .2))
 

@@ -1,6 +1,6 @@
 -- Laws of n and f: the largest f is what its name says, and what setup's numbers tell.
-use Prim.Native.Nat.{ℕ, zero, suc, _+_, _*_, _-_, _/_, _%_, _≤_, _<_}
-use mathlib.Core.Bool.{Bool, true, false, not, _&&_, _||_, cond}
+use Prim.Native.Nat.{ℕ, zero, suc, _+_, _-_, _/_, _%_, _≤_, _<_}
+use mathlib.Core.Bool.{Bool, true, false, not, _||_, cond}
 use mathlib.Core.Path.{_≡_, refl, sym, ap, _∙_, subst}
 use native.Mathlib.Omega.{arith}
 use native.Mathlib.Decide.{ℕ-discrete}
@@ -10,7 +10,7 @@ use borrow.Author.Tests.{leb-true, ltb-false, eqb-false, le-leb, le-ltb, ne-eqb}
 use Rattle.base.specs.Tests.{is-true, true-is, true≢false, and-true, or-false}
 use Rattle.seats.specs.declared.Seat.{Seat}
 use Rattle.seats.specs.Seats.{leader}
-use Rattle.seats.specs.Sizes.{sizeAllowed, bears, largest, mostFaulty, sizeNumber, seatNumber}
+use Rattle.seats.specs.Sizes.{sizeAllowed, fewest, bears, largest, mostFaulty, sizeNumber, seatNumber}
 
 largest-passes : (p : ℕ → Bool) (b : ℕ) → T (p 0) → T (p (largest p b))
 largest-passes p zero z = z
@@ -38,14 +38,14 @@ most-bears n l h = subst (λ f. T (bears n f)) (sym (most-is n l h)) (largest-pa
 
 pub most-largest : (n f : ℕ) → 4 ≤ n → n ≤ 64 → T (bears n f) → f ≤ mostFaulty n
 most-largest n f l h t =
-    let b = leb→le (5 * f - 1) n t in
+    let b = leb→le (fewest f) n t in
     subst (λ m. f ≤ m) (sym (most-is n l h)) (largest-most (bears n) n f (omega arith) t)
 
 -- Worked out with no table: (n + 1) divided by 5, rounded down.
 pub most-quotient : (n : ℕ) → 4 ≤ n → n ≤ 64 → mostFaulty n ≡ (n + 1) / 5
 most-quotient n l h =
-    let a = leb→le (5 * mostFaulty n - 1) n (most-bears n l h) in
-    let b = most-largest n ((n + 1) / 5) l h (le→leb (5 * ((n + 1) / 5) - 1) n (omega arith)) in
+    let a = leb→le (fewest (mostFaulty n)) n (most-bears n l h) in
+    let b = most-largest n ((n + 1) / 5) l h (le→leb (fewest ((n + 1) / 5)) n (omega arith)) in
     omega arith
 
 -- The leader is one of the seats.
@@ -73,8 +73,8 @@ sizes-taken n f e = go (sizeAllowed n) refl (eqb f 0 || ltb (mostFaulty n) f) re
         let o = or-false (eqb f 0) (ltb (mostFaulty n) f) q in
         let ne = eqb-false f 0 (o .0) in
         let m = ltb-false (mostFaulty n) f (o .1) in
-        let b = leb→le (5 * mostFaulty n - 1) n (most-bears n l h) in
-        record { least = l; most = h; some = omega arith; fits = le→leb (5 * f - 1) n (omega arith) }
+        let b = leb→le (fewest (mostFaulty n)) n (most-bears n l h) in
+        record { least = l; most = h; some = omega arith; fits = le→leb (fewest f) n (omega arith) }
 
 pub sizes-take : (n f : ℕ) → Allowed n f → sizeNumber n f ≡ 0
 unfolding sizeNumber

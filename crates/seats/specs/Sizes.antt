@@ -1,7 +1,7 @@
 -- 01, "Seats, views, entries": n and f, the largest f, and what setup refuses of them.
 use Prim.Native.Nat.{ℕ, zero, suc, _*_, _-_}
 use mathlib.Core.Bool.{Bool, not, _&&_, _||_, cond}
-use mathlib.Core.List.{List, [], _∷_}
+use mathlib.Core.List.{[], _∷_}
 use lib.Dec.{eqb, leb, ltb}
 use Rattle.base.specs.Refusal.{Refusals, first}
 use Rattle.seats.specs.declared.Seat.{Seat}
@@ -10,9 +10,12 @@ use Rattle.seats.specs.declared.Seat.{Seat}
 abbrev pub sizeAllowed : ℕ → Bool
 sizeAllowed n = leb 4 n && leb n 64
 
--- "5f − 1 ≤ n"
+-- "5f − 1 ≤ n": the fewest seats that bear f faulty ones.
+abbrev pub fewest : ℕ → ℕ
+fewest f = 5 * f - 1
+
 abbrev pub bears : ℕ → ℕ → Bool
-bears n f = leb (5 * f - 1) n
+bears n f = leb (fewest f) n
 
 -- The largest number up to b that passes, 0 if none does.
 abbrev pub largest : (ℕ → Bool) → ℕ → ℕ

@@ -1,7 +1,6 @@
 // Sets of seats as 64 bits: bit k is seat k.
 ghost use mathlib.Core.Path.{_≡_};
 ghost use mathlib.Core.Bool.{true};
-ghost use Prim.Native.Nat.{_≤_};
 ghost use Rattle.seats.specs.Mask.{bit, within, seatsIn, withSeat, without, putSeat, rowsOf, mask};
 
 // Is seat k in the mask.
@@ -29,7 +28,11 @@ pub fn without(a: u64, b: u64) -> u64
 pub fn put(m: u64, k: usize, on: bool) -> u64
     ensures { λ r. ⌜ r ≡ putSeat m k on ⌝ }
 {
-    if on { with_seat(m, k) } else { without(m, with_seat(0, k)) }
+    if on {
+        with_seat(m, k)
+    } else {
+        without(m, with_seat(0, k))
+    }
 }
 
 // How many distinct seats.
@@ -50,7 +53,11 @@ pub fn rows_of(n: u8) -> usize
 pub fn below(n: u8) -> u64
     ensures { λ r. ⌜ r ≡ mask (λ k. true) (rowsOf n) ⌝ }
 {
-    if n < 64 { (1u64 << n) - 1 } else { 0xffffffffffffffff }
+    if n < 64 {
+        (1u64 << n) - 1
+    } else {
+        0xffffffffffffffff
+    }
 }
 
 // No bit at or above n.

@@ -3,16 +3,16 @@ use Prim.Native.Nat.{ℕ, zero, suc, _-_, _*_, _≤_, _<_}
 use mathlib.Core.Bool.{Bool, true, false, not, _&&_, cond}
 use mathlib.Core.Logic.{_⊎_, inl, inr}
 use mathlib.Core.Option.{Option, none, some}
-use mathlib.Core.Path.{_≡_, refl, sym, ap, ap₂, _∙_, subst}
+use mathlib.Core.Path.{_≡_, refl, sym, ap, ap₂, _∙_}
 use native.Mathlib.Omega.{arith}
 use native.Mathlib.Decide.{ℕ-discrete}
 use lib.Dec.{T, eqb, ltb, leb}
 use lib.Count.{trailingZeros}
 use borrow.Author.Tests.{eq-eqb, ne-eqb, lt-ltb, le-ltb}
-use Rattle.base.specs.Tests.{is-true, is-false, true≢false}
+use Rattle.base.specs.Tests.{is-true, is-false}
 use Rattle.entry.specs.declared.Entry.{Entry}
 use Rattle.entry.specs.Entry.{same}
-use Rattle.seats.specs.Seats.{leader, count, someSeat, highest}
+use Rattle.seats.specs.Seats.{count, someSeat, highest}
 use Rattle.seats.specs.Count.{count-ext, count-mono, count-pos, highest-ext, highest-reached, le-highest}
 use Rattle.seats.specs.Sizes.{quorum}
 use Rattle.seats.specs.Mask.{bit, mask, seatsIn}

@@ -1,11 +1,11 @@
 -- Two of the rows of a mask that have different entries.
-use Prim.Native.Nat.{ℕ, _+_, _≤_, _<_}
+use Prim.Native.Nat.{ℕ, _+_, _<_}
 use mathlib.Core.Bool.{Bool, true, false, not, _&&_}
-use mathlib.Core.Logic.{_⊎_, inl, inr}
-use mathlib.Core.Path.{_≡_, refl, sym, ap, _∙_, subst}
+use mathlib.Core.Logic.{inl, inr}
+use mathlib.Core.Path.{_≡_, sym, ap, _∙_, subst}
 use native.Mathlib.Omega.{arith}
 use native.Mathlib.Decide.{ℕ-discrete, decLt}
-use lib.Dec.{T, T-not, not-T, ltb, ltb→lt, lt→ltb}
+use lib.Dec.{T, T-not, not-T, ltb→lt, lt→ltb}
 use Rattle.base.specs.Tests.{and-l, and-r, and-i, T-dec, is-true, true-is, false-is, true≢false}
 use Rattle.entry.specs.declared.Entry.{Entry}
 use Rattle.entry.specs.Entry.{same}

@@ -3,10 +3,13 @@ pub mod Selection
 pub mod Rows
 pub mod Steps
 pub mod RowLaws
+pub mod TableLaws
 pub mod Smallest
 pub mod SelectionExt
 pub mod Ways
+pub mod Gather
 pub mod History
 pub mod Safety
 pub mod SafetyWitness
 pub mod Examples
+pub mod Unique

@@ -1,5 +1,5 @@
 -- Rows of votes: the leader's table, by seat, and the rows of a request, in a list.
-use Prim.Native.Nat.{ℕ, zero, suc, _+_}
+use Prim.Native.Nat.{ℕ, _+_}
 use mathlib.Core.Bool.{Bool, true, false, not, _&&_, _||_, cond}
 use mathlib.Core.List.{List, [], _∷_}
 use lib.Dec.{eqb, leb, ltb}
@@ -102,10 +102,11 @@ broken n f v rows = ltb n (length rows) || (not (rising n 0 rows) || not (allSou
 
 -- "Called by itself, the selection answers 1 or 2 for a bad n or f, 5 for view 0, and 15 for a table that breaks 15's
 -- conditions on rows".
+abbrev pub rowsNumber : ℕ → ℕ → View → Bool → ℕ
+rowsNumber n f v breaks = first ((1, not (sizeAllowed n)) ∷ (2, eqb f 0 || ltb (mostFaulty n) f) ∷ (5, eqb (v .0) 0) ∷ (15, breaks) ∷ [])
+
 unfoldable pub selected : ℕ → ℕ → View → List Row → Selected
-selected n f v rows =
-    answered (first ((1, not (sizeAllowed n)) ∷ (2, eqb f 0 || ltb (mostFaulty n) f) ∷ (5, eqb (v .0) 0) ∷ (15, broken n f v rows) ∷ []))
-    (Selected.Chosen (selection n f (hasSeat rows) (voteOf rows)))
+selected n f v rows = answered (rowsNumber n f v (broken n f v rows)) (Selected.Chosen (selection n f (hasSeat rows) (voteOf rows)))
 
 -- ---- the same, gathered one row after the other
 
@@ -133,8 +134,5 @@ gathered t (r ∷ rs) = gathered (added t r) rs
 
 unfoldable pub selectedFrom : Rows → Selected
 selectedFrom t =
-    answered
-    (first
-    ((1, not (sizeAllowed (t .n))) ∷ (2, eqb (t .f) 0 || ltb (mostFaulty (t .n)) (t .f)) ∷ (5, eqb (t .view .0) 0) ∷ (15, ltb (t .n) (t .count) || t .broken)
-    ∷ []))
+    answered (rowsNumber (t .n) (t .f) (t .view) (ltb (t .n) (t .count) || t .broken))
     (Selected.Chosen (selection (t .n) (t .f) (bit (t .table .filled)) (voteAt (t .table .votes))))

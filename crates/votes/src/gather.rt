@@ -1,17 +1,17 @@
 // Tables of votes, and the rows of a request, gathered one after the other.
 ghost use mathlib.Core.Path.{_≡_};
 ghost use Rattle.votes.specs.Rows.{noVotes, withVote, noRows, oneMore, added, selectedFrom};
-use crate::steps;
-use crate::valid::valid;
 use crate::Row;
 use crate::Rows;
 use crate::Selected;
 use crate::Vote;
 use crate::VoteRows;
 use crate::Votes;
+use crate::steps;
+use crate::valid::valid;
 use entry::table;
-use seats::mask;
 use seats::View;
+use seats::mask;
 
 impl VoteRows {
     pub fn none() -> VoteRows
@@ -101,6 +101,13 @@ impl Rows {
         }
         let rows = self.table;
         let t = rows.votes;
-        Selected::Chosen(steps::five_steps(mask::below(n) & rows.filled, t.cast, &t.entries, &t.views, n, self.f))
+        Selected::Chosen(steps::five_steps(
+            mask::below(n) & rows.filled,
+            t.cast,
+            &t.entries,
+            &t.views,
+            n,
+            self.f,
+        ))
     }
 }

@@ -3,8 +3,9 @@ pub mod valid; // valid.rt: when a vote is valid; 64 votes
 pub mod search; // search.rt: what the steps look for among the rows
 pub mod steps; // steps.rt: the five steps over the leader's table
 pub mod gather; // gather.rt: tables of votes; the selection by itself, over rows gathered one by one
-use entry::table::Entries;
+
 use entry::Entry;
+use entry::table::Entries;
 use seats::Seat;
 use seats::View;
 

@@ -11,14 +11,14 @@ ghost use Rattle.seats.specs.Mask.{bit, mask, seatsIn};
 ghost use Rattle.votes.specs.Selection.{smallest, forcedTo};
 ghost use Rattle.votes.specs.Rows.{votesOf, tableOf, hasRow};
 ghost use Rattle.votes.specs.Steps.{found, lowered};
+use crate::Choice;
 use crate::valid::valid_if;
 use crate::valid::vote_at;
-use crate::Choice;
+use entry::Entry;
 use entry::table;
 use entry::table::Entries;
-use entry::Entry;
-use seats::mask;
 use seats::View;
+use seats::mask;
 
 // The smallest entry so far, if there is one.
 pub(crate) struct Best {
@@ -27,7 +27,17 @@ pub(crate) struct Best {
 }
 
 // The seats whose row is filled and valid.
-pub(crate) fn present<'a>(filled: u64, cast: u64, verified: u64, entries: &'a Entries, masks: &'a [u64; 64], views: &'a [u32; 64], n: u8, f: u8, v: View) -> u64
+pub(crate) fn present<'a>(
+    filled: u64,
+    cast: u64,
+    verified: u64,
+    entries: &'a Entries,
+    masks: &'a [u64; 64],
+    views: &'a [u32; 64],
+    n: u8,
+    f: u8,
+    v: View,
+) -> u64
     requires { ⌜ n ≤ 64 ⌝ }
     ensures { λ r. ⌜ r ≡ mask (hasRow n f v (tableOf filled (votesOf cast verified (now (entries .entry)) (now (masks .entry)) (now (views .entry))))) n ⌝ }
 {
@@ -121,7 +131,17 @@ pub(crate) fn lower(passes: bool, e: Entry, b: Best) -> Best
 {
     let old = b.entry;
     let keep = !passes | (b.found & entry::less(old, e));
-    if keep { Best { found: b.found, entry: old } } else { Best { found: true, entry: e } }
+    if keep {
+        Best {
+            found: b.found,
+            entry: old,
+        }
+    } else {
+        Best {
+            found: true,
+            entry: e,
+        }
+    }
 }
 
 // How many rows are for an entry, counted only where it is asked for.
@@ -129,7 +149,11 @@ pub(crate) fn backing_if<'a>(c: bool, rows: u64, entries: &'a Entries, n: u8, e:
     requires { ⌜ n ≤ 64 ⌝ }
     ensures { λ r. ⌜ r ≡ cond c (seatsIn (mask (λ k. bit rows k && same (entryAt (now (entries .entry)) k) e) n)) 0 ⌝ }
 {
-    if c { mask::seats_in(holding(rows, entries, n, e)) } else { 0 }
+    if c {
+        mask::seats_in(holding(rows, entries, n, e))
+    } else {
+        0
+    }
 }
 
 // The smallest entry that at least `need` of the rows are for.
@@ -138,7 +162,10 @@ pub(crate) fn smallest_backed<'a>(rows: u64, entries: &'a Entries, n: u8, need: 
     ensures { λ r. ⌜ found r ≡ smallest (λ k. bit rows k && leb need (seatsIn (mask (λ j. bit rows j && same (entryAt (now (entries .entry)) j) (entryAt (now (entries .entry)) k)) n))) (entryAt (now (entries .entry))) n ⌝ }
 {
     let mut i: usize = 0;
-    let mut b = Best { found: false, entry: entry::zero() };
+    let mut b = Best {
+        found: false,
+        entry: entry::zero(),
+    };
     while i < n as usize {
         let e = table::entry_at(entries, i);
         let there = mask::has(rows, i);
@@ -153,5 +180,9 @@ pub(crate) fn forced_to(b: Best) -> Choice
     ensures { λ r. ⌜ r ≡ forcedTo (found b) ⌝ }
 {
     let e = b.entry;
-    if b.found { Choice::Forced(e) } else { Choice::Free }
+    if b.found {
+        Choice::Forced(e)
+    } else {
+        Choice::Free
+    }
 }

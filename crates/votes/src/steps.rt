@@ -5,18 +5,25 @@ ghost use Rattle.seats.specs.Mask.{bit};
 ghost use Rattle.votes.specs.Selection.{selection};
 ghost use Rattle.votes.specs.Rows.{votesOf, tableOf, voteAt, callNumber, chosen};
 ghost use Rattle.votes.specs.Steps.{bareVotes};
-use crate::search;
 use crate::Choice;
 use crate::Selected;
 use crate::VoteRows;
+use crate::search;
 use entry::table;
 use entry::table::Entries;
+use seats::View;
 use seats::mask;
 use seats::sizes;
-use seats::View;
 
 // 01's steps over the rows of a mask. Marks and certificates of votes play no part any more.
-pub(crate) fn five_steps<'a>(rows: u64, cast: u64, entries: &'a Entries, views: &'a [u32; 64], n: u8, f: u8) -> Choice
+pub(crate) fn five_steps<'a>(
+    rows: u64,
+    cast: u64,
+    entries: &'a Entries,
+    views: &'a [u32; 64],
+    n: u8,
+    f: u8,
+) -> Choice
     requires { ⌜ (0 < n) × (n ≤ 64) × (rows < 2 ^ n) ⌝ }
     ensures { λ r. ⌜ r ≡ selection n f (bit rows) (voteAt (bareVotes cast (now (entries .entry)) (now (views .entry)))) ⌝ }
 {
@@ -52,7 +59,17 @@ pub(crate) fn call_number(n: u8, f: u8, v: View) -> u8
 }
 
 // The selection over a table that is lent as its arrays.
-pub fn choose_among<'a>(filled: u64, cast: u64, verified: u64, entries: &'a Entries, masks: &'a [u64; 64], views: &'a [u32; 64], n: u8, f: u8, v: View) -> Selected
+pub fn choose_among<'a>(
+    filled: u64,
+    cast: u64,
+    verified: u64,
+    entries: &'a Entries,
+    masks: &'a [u64; 64],
+    views: &'a [u32; 64],
+    n: u8,
+    f: u8,
+    v: View,
+) -> Selected
     ensures { λ r. ⌜ r ≡ chosen n f v (tableOf filled (votesOf cast verified (now (entries .entry)) (now (masks .entry)) (now (views .entry)))) ⌝ }
 {
     let number = call_number(n, f, v);
@@ -73,6 +90,16 @@ impl VoteRows {
         ensures { λ r. ⌜ r ≡ chosen n f v self ⌝ }
     {
         let t = self.votes;
-        choose_among(self.filled, t.cast, t.verified, &t.entries, &t.masks, &t.views, n, f, v)
+        choose_among(
+            self.filled,
+            t.cast,
+            t.verified,
+            &t.entries,
+            &t.masks,
+            &t.views,
+            n,
+            f,
+            v,
+        )
     }
 }

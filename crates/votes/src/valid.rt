@@ -7,9 +7,9 @@ ghost use Rattle.votes.specs.Rows.{votesOf, voteAt};
 use crate::Vote;
 use entry::table;
 use entry::table::Entries;
+use seats::View;
 use seats::certificate;
 use seats::mask;
-use seats::View;
 
 // Nil first: most votes of an honest house are nil or cheap to check.
 pub fn valid(n: u8, f: u8, v: View, x: Vote) -> bool
@@ -32,7 +32,14 @@ pub(crate) fn valid_if(c: bool, n: u8, f: u8, v: View, x: Vote) -> bool
 }
 
 // Vote k of 64.
-pub(crate) fn vote_at<'a>(cast: u64, verified: u64, entries: &'a Entries, masks: &'a [u64; 64], views: &'a [u32; 64], k: usize) -> Vote
+pub(crate) fn vote_at<'a>(
+    cast: u64,
+    verified: u64,
+    entries: &'a Entries,
+    masks: &'a [u64; 64],
+    views: &'a [u32; 64],
+    k: usize,
+) -> Vote
     requires { ⌜ k < 64 ⌝ }
     ensures { λ r. ⌜ r ≡ voteAt (votesOf cast verified (now (entries .entry)) (now (masks .entry)) (now (views .entry))) k ⌝ }
 {

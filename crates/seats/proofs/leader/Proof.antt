@@ -5,8 +5,6 @@ use borrow.Author.Tests.{eq-eqb, ne-eqb}
 use borrow.Author.Needs.{needs}
 use Rattle.seats.proofs.leader.Statement.{statement}
 use Rattle.seats.proofs.leader.Tie as tie
-use Rattle.seats.proofs.leader.Reads as reads
-use Rattle.seats.proofs.leader.Lts as lts
 
 returns : tie.Need-returns
 returns c = simp (eq-eqb _ _ (c .if1 .taken))

@@ -2,11 +2,6 @@ use Rattle.seats.specs.Certificate.{goodCertificate}
 use borrow.Author.Needs.{needs}
 use Rattle.seats.proofs.certificate.good_certificate.Statement.{statement}
 use Rattle.seats.proofs.certificate.good_certificate.Tie as tie
-use Rattle.seats.proofs.certificate.good_certificate.Reads as reads
-use Rattle.seats.proofs.certificate.good_certificate.Lts as lts
-use Rattle.base.proofs.pick_flag.Reads as pick-flag-reads
-use Rattle.seats.proofs.mask.seats_in.Reads as seats-in-reads
-use Rattle.seats.proofs.mask.within.Reads as within-reads
 
 within-requires : tie.Need-within-requires
 within-requires c κs = search needs

@@ -4,8 +4,6 @@ use Rattle.seats.specs.Bits.{bit-past}
 use borrow.Author.Needs.{needs}
 use Rattle.seats.proofs.mask.has.Statement.{statement}
 use Rattle.seats.proofs.mask.has.Tie as tie
-use Rattle.seats.proofs.mask.has.Reads as reads
-use Rattle.seats.proofs.mask.has.Lts as lts
 
 shr-result : tie.Need-shr-result
 shr-result c = search needs

@@ -3,10 +3,6 @@ use Rattle.seats.specs.Mask.{putSeat, without}
 use borrow.Author.Needs.{needs}
 use Rattle.seats.proofs.mask.put.Statement.{statement}
 use Rattle.seats.proofs.mask.put.Tie as tie
-use Rattle.seats.proofs.mask.put.Reads as reads
-use Rattle.seats.proofs.mask.put.Lts as lts
-use Rattle.seats.proofs.mask.with_seat.Reads as with-seat-reads
-use Rattle.seats.proofs.mask.without.Reads as without-reads
 
 with-seat-requires : tie.Need-with-seat-requires
 with-seat-requires c κs = search needs

@@ -3,8 +3,6 @@ use Rattle.seats.specs.Bits.{ones-count}
 use borrow.Author.Needs.{needs}
 use Rattle.seats.proofs.mask.seats_in.Statement.{statement}
 use Rattle.seats.proofs.mask.seats_in.Tie as tie
-use Rattle.seats.proofs.mask.seats_in.Reads as reads
-use Rattle.seats.proofs.mask.seats_in.Lts as lts
 
 returns : tie.Need-returns
 unfolding seatsIn

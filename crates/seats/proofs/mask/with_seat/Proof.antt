@@ -1,5 +1,5 @@
 use Prim.Native.Nat.{_+_, _≤_}
-use mathlib.Core.Path.{ap, _∙_, sym}
+use mathlib.Core.Path.{ap, _∙_}
 use native.Mathlib.Omega.{arith}
 use native.Mathlib.Nat.{one-mul}
 use lib.Pow.{shl-exact}
@@ -10,15 +10,13 @@ use Rattle.seats.specs.Mask.{withSeat}
 use borrow.Author.Needs.{needs}
 use Rattle.seats.proofs.mask.with_seat.Statement.{statement}
 use Rattle.seats.proofs.mask.with_seat.Tie as tie
-use Rattle.seats.proofs.mask.with_seat.Reads as reads
-use Rattle.seats.proofs.mask.with_seat.Lts as lts
 
 shl-result : tie.Need-shl-result
 shl-result c = search needs
 
 returns : tie.Need-returns
 unfolding withSeat
-returns c =     let k = c .before .args .k in
+returns c = let k = c .before .args .k in
     let room : 1 + k ≤ 64 = omega arith in
     simp (lt-ltb _ _ (c .if1 .taken)) (ap (bitOr (c .before .args .m)) (shl-exact 1 k 64 (lit< tt) room ∙ one-mul _))
 

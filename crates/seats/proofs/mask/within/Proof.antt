@@ -1,19 +1,16 @@
-use Prim.Native.Nat.{ℕ, _+_, _^_, _≤_, _<_}
+use Prim.Native.Nat.{ℕ, _^_, _≤_, _<_}
 use mathlib.Core.Path.{_≡_, refl, sym, ap, _∙_}
 use mathlib.Core.Bool.{Bool, true, false}
 use native.Mathlib.Omega.{arith}
 use native.Mathlib.Nat.{lt-of-lt-of-le}
 use lib.Dec.{leb, ltb}
 use lib.Pow.{pow-mono}
-use borrow.Author.Tests.{leb-true, leb-false, lt-ltb, le-ltb, lt-leb, le-leb}
+use borrow.Author.Tests.{leb-true, leb-false, lt-ltb, le-ltb, le-leb}
 use Rattle.seats.specs.Mask.{mask, rowsOf}
 use Rattle.seats.specs.Marks.{full-is, rows-is, rows-past}
 use borrow.Author.Needs.{needs}
 use Rattle.seats.proofs.mask.within.Statement.{statement}
 use Rattle.seats.proofs.mask.within.Tie as tie
-use Rattle.seats.proofs.mask.within.Reads as reads
-use Rattle.seats.proofs.mask.within.Lts as lts
-use Rattle.seats.proofs.mask.below.Reads as below-reads
 
 -- A number of 64 bits is at most the mask of all seats below n exactly if it is below the n-th power.
 at-most : (m n : ℕ) → m < 2 ^ 64 → (b : Bool) → leb n 64 ≡ b → leb m (mask (λ k. true) (rowsOf n)) ≡ ltb m (2 ^ n)
@@ -31,7 +28,7 @@ below-requires : tie.Need-below-requires
 below-requires c κs = search needs
 
 returns : tie.Need-returns
-returns c =     let m = c .before .args .m in
+returns c = let m = c .before .args .m in
     let n = c .before .args .n in
     ap (leb m) (c .below .ensures) ∙ at-most m n (search needs) (leb n 64) refl
 

@@ -1,16 +1,7 @@
-use mathlib.Core.Path.{_≡_, refl, sym, ap, ap₂, _∙_}
-use mathlib.Core.Bool.{Bool, true, false, cond}
-use Prim.Native.Nat.{ℕ}
-use lib.Dec.{eqb}
-use Rattle.seats.specs.Sizes.{sizeNumber, seatNumber}
 use Rattle.seats.specs.SizeLaws.{seat-after-sizes}
 use borrow.Author.Needs.{needs}
 use Rattle.seats.proofs.sizes.seat_number.Statement.{statement}
 use Rattle.seats.proofs.sizes.seat_number.Tie as tie
-use Rattle.seats.proofs.sizes.seat_number.Reads as reads
-use Rattle.seats.proofs.sizes.seat_number.Lts as lts
-use Rattle.base.proofs.pick.Reads as pick-reads
-use Rattle.seats.proofs.sizes.size_number.Reads as size-number-reads
 
 size-number-requires : tie.Need-size-number-requires
 size-number-requires c κs = search needs

@@ -2,10 +2,6 @@ use Rattle.seats.specs.Sizes.{sizeNumber}
 use borrow.Author.Needs.{needs}
 use Rattle.seats.proofs.sizes.size_number.Statement.{statement}
 use Rattle.seats.proofs.sizes.size_number.Tie as tie
-use Rattle.seats.proofs.sizes.size_number.Reads as reads
-use Rattle.seats.proofs.sizes.size_number.Lts as lts
-use Rattle.base.proofs.pick.Reads as pick-reads
-use Rattle.seats.proofs.sizes.most_faulty.Reads as most-faulty-reads
 
 most-faulty-requires : tie.Need-most-faulty-requires
 most-faulty-requires c κs = search needs

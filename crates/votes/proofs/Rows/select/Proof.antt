@@ -1,39 +1,83 @@
+use mathlib.Core.Path.{_≡_, refl, sym, ap, _∙_}
+use mathlib.Core.Bool.{Bool, _||_, cond}
+use native.Mathlib.Omega.{arith}
+use lib.Bits.{bitAnd}
+use lib.Dec.{ltb}
+use Rattle.seats.specs.Mask.{bit}
+use Rattle.seats.specs.SizeLaws.{Allowed}
+use Rattle.seats.specs.Marks.{Marks, marks-below}
+use Rattle.votes.specs.declared.Rows.{Rows}
+use Rattle.votes.specs.declared.Selected.{Selected}
+use Rattle.votes.specs.SelectionExt.{selection-ext}
+use Rattle.votes.specs.Rows.{voteAt, selectedFrom, callNumber, rowsNumber}
+use Rattle.votes.specs.RowLaws.{call-taken, rows-refused, rows-taken, answered-refused, answered-taken}
+use Rattle.votes.specs.Steps.{bareVotes}
 use borrow.Author.Needs.{needs}
 use Rattle.votes.proofs.Rows.select.Statement.{statement}
 use Rattle.votes.proofs.Rows.select.Tie as tie
-use Rattle.votes.proofs.Rows.select.Reads as reads
-use Rattle.votes.proofs.Rows.select.Lts as lts
-use Rattle.seats.proofs.mask.below.Reads as below-reads
-use Rattle.votes.proofs.steps.call_number.Reads as call-number-reads
-use Rattle.votes.proofs.steps.five_steps.Reads as five-steps-reads
 
--- src/gather.rt:95:13
+abbrev breaks : Rows → Bool
+breaks t = ltb (t .n) (t .count) || t .broken
+
+number-0 : (c : tie.Else1) → let t = c .before .before .args .self in callNumber (t .n) (t .f) (t .view) ≡ 0
+number-0 c = sym (c .before .call-number .ensures) ∙ c .if1 .left
+
+allowed : (c : tie.Else1) → let t = c .before .before .args .self in Allowed (t .n) (t .f)
+allowed c = let t = c .before .before .args .self in call-taken (t .n) (t .f) (t .view) (number-0 c) .0
+
+-- The rows of seats below n.
+inside : (c : tie.After-below) →
+    let t = c .before .before .before .before .before .before .before .before .args .self in
+    Marks (t .n) (bitAnd (c .below .result) (t .table .filled)) (bit (t .table .filled))
+inside c =
+    let if1 = c .before .before .before .before .before .before in
+    let t = if1 .before .before .args .self in
+    marks-below (t .n) (c .below .result) (t .table .filled) (allowed if1 .most) (c .below .ensures)
+
 call-number-requires : tie.Need-call-number-requires
 call-number-requires c κs = search needs
 
--- src/gather.rt:97:13
 returns : tie.Need-returns
-returns c = search needs
+unfolding selectedFrom
+returns c = let t = c .before .before .args .self in
+    let e = c .before .call-number .ensures in
+    let same = rows-refused (t .n) (t .f) (t .view) (breaks t) (λ z. c .if1 .taken (e ∙ z)) in
+    ap Selected.Refused (e ∙ sym same) ∙ answered-refused _ _ (λ z. c .if1 .taken (e ∙ sym same ∙ z))
 
--- src/gather.rt:99:14
 cast-if2 : tie.Need-cast-if2
 cast-if2 c = search needs
 
--- src/gather.rt:100:13
 returns-2 : tie.Need-returns-2
-returns-2 c = search needs
+unfolding selectedFrom
+returns-2 c = let if1 = c .before .before .before in
+    let t = if1 .before .before .args .self in
+    let same : rowsNumber (t .n) (t .f) (t .view) (breaks t) ≡ 15 =
+    rows-taken (t .n) (t .f) (t .view) (breaks t) (number-0 if1) ∙ ap (λ b. cond b 15 0) (c .if2 .taken) in
+    ap Selected.Refused (sym same) ∙ answered-refused _ _ (λ z. omega arith)
 
--- src/gather.rt:104:44
 below-requires : tie.Need-below-requires
 below-requires c κs = search needs
 
--- src/gather.rt:104:26
 five-steps-requires : tie.Need-five-steps-requires
-five-steps-requires c κs = search needs
+five-steps-requires c κs = let below = c .before .before .before .before in
+    let if1 = below .before .before .before .before .before .before in
+    let a = allowed if1 in
+    (omega (arith, a .least), a .most, inside below .below)
 
--- src/gather.rt:91:5
 returns-3 : tie.Need-returns-3
-returns-3 c = search needs
+unfolding selectedFrom voteAt
+returns-3 c = let below = c .before .before .before .before .before in
+    let if2 = below .before .before .before in
+    let if1 = if2 .before .before .before in
+    let t = if1 .before .before .args .self in
+    let same : rowsNumber (t .n) (t .f) (t .view) (breaks t) ≡ 0 =
+    rows-taken (t .n) (t .f) (t .view) (breaks t) (number-0 if1) ∙ ap (λ b. cond b 15 0) (if2 .if2 .left) in
+    ap Selected.Chosen
+    (c .five-steps .ensures
+    ∙ selection-ext (t .n) (t .f) (bit (bitAnd (below .below .result) (t .table .filled))) (bit (t .table .filled))
+    (voteAt (bareVotes (t .table .votes .cast) (t .table .votes .entries) (t .table .votes .views))) (voteAt (t .table .votes)) (inside below .at)
+    (λ k l u. record { cast = refl; view = λ x. refl; entry = λ x. refl }))
+    ∙ answered-taken _ _ same
 
 pub select-spec : {M : Type 1} → statement M
 select-spec =

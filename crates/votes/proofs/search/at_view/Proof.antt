@@ -1,5 +1,5 @@
 use Prim.Native.Nat.{ℕ, _≤_, _<_, _-_, _+_, _*_, _^_}
-use mathlib.Core.Path.{_≡_, refl, sym, ap, ap₂, _∙_}
+use mathlib.Core.Path.{_≡_, refl, ap}
 use mathlib.Core.Bool.{Bool, _&&_}
 use mathlib.Core.List.{List}
 use native.Mathlib.Omega.{arith}
@@ -11,9 +11,6 @@ use lib.Dec.{eqb}
 use borrow.Author.Needs.{needs}
 use Rattle.votes.proofs.search.at_view.Statement.{statement}
 use Rattle.votes.proofs.search.at_view.Tie as tie
-use Rattle.votes.proofs.search.at_view.Reads as reads
-use Rattle.votes.proofs.search.at_view.Lts as lts
-use Rattle.seats.proofs.mask.has.Reads as has-reads
 
 -- A row of the mask, at view w.
 abbrev test : ℕ → List ℕ → ℕ → ℕ → Bool
@@ -26,7 +23,7 @@ abbrev μ-loop : tie.MeasureT-loop
 μ-loop rows views n w i₀ m₀ i m = i
 
 loop-holds : tie.Need-loop-holds Inv-loop μ-loop
-loop-holds c =     let a = c .args in
+loop-holds c = let a = c .args in
     (omega arith, packed-none (test (a .rows) (a .views .now) (a .w)) (a .n) (a .n) refl)
 
 sub-i : tie.Need-sub-i Inv-loop μ-loop
@@ -68,7 +65,7 @@ loop-again : tie.Need-loop-again Inv-loop μ-loop
 loop-again c = (omega arith, next c .0)
 
 returns : tie.Need-returns Inv-loop μ-loop
-returns c =     let l = c .before .loop in
+returns c = let l = c .before .loop in
     let a = c .before .before .args in
     packed-all (test (a .rows) (a .views .now) (a .w)) (a .n) (l .i) (l .m) (c .loop-test .left) (l .inv .1)
 

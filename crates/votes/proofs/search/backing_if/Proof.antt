@@ -3,10 +3,6 @@ use Rattle.seats.specs.Mask.{seatsIn}
 use borrow.Author.Needs.{needs}
 use Rattle.votes.proofs.search.backing_if.Statement.{statement}
 use Rattle.votes.proofs.search.backing_if.Tie as tie
-use Rattle.votes.proofs.search.backing_if.Reads as reads
-use Rattle.votes.proofs.search.backing_if.Lts as lts
-use Rattle.seats.proofs.mask.seats_in.Reads as seats-in-reads
-use Rattle.votes.proofs.search.holding.Reads as holding-reads
 
 holding-requires : tie.Need-holding-requires
 holding-requires c κs = search needs

@@ -1,8 +1,6 @@
 use borrow.Author.Needs.{needs}
 use Rattle.votes.proofs.search.forced_to.Statement.{statement}
 use Rattle.votes.proofs.search.forced_to.Tie as tie
-use Rattle.votes.proofs.search.forced_to.Reads as reads
-use Rattle.votes.proofs.search.forced_to.Lts as lts
 
 returns : tie.Need-returns
 returns c = simp (c .if1 .taken)

@@ -1,5 +1,5 @@
 use Prim.Native.Nat.{ℕ, _≤_, _<_, _-_, _+_, _*_, _^_}
-use mathlib.Core.Path.{_≡_, refl, sym, ap, ap₂, _∙_}
+use mathlib.Core.Path.{_≡_, refl, ap, ap₂, _∙_}
 use mathlib.Core.Bool.{Bool, _&&_}
 use mathlib.Core.List.{List}
 use native.Mathlib.Omega.{arith}
@@ -12,11 +12,6 @@ use Rattle.entry.specs.Table.{entryAt}
 use borrow.Author.Needs.{needs}
 use Rattle.votes.proofs.search.holding.Statement.{statement}
 use Rattle.votes.proofs.search.holding.Tie as tie
-use Rattle.votes.proofs.search.holding.Reads as reads
-use Rattle.votes.proofs.search.holding.Lts as lts
-use Rattle.entry.proofs.same.Reads as same-reads
-use Rattle.entry.proofs.table.entry_at.Reads as entry-at-reads
-use Rattle.seats.proofs.mask.has.Reads as has-reads
 
 -- A row of the mask, for an entry.
 abbrev test : ℕ → List ℕ → Entry → ℕ → Bool
@@ -29,7 +24,7 @@ abbrev μ-loop : tie.MeasureT-loop
 μ-loop rows entries n e i₀ m₀ i m = i
 
 loop-holds : tie.Need-loop-holds Inv-loop μ-loop
-loop-holds c =     let a = c .args in
+loop-holds c = let a = c .args in
     (omega arith, packed-none (test (a .rows) (a .entries .now) (a .e)) (a .n) (a .n) refl)
 
 sub-i : tie.Need-sub-i Inv-loop μ-loop
@@ -71,7 +66,7 @@ loop-again : tie.Need-loop-again Inv-loop μ-loop
 loop-again c = (omega arith, next c .0)
 
 returns : tie.Need-returns Inv-loop μ-loop
-returns c =     let l = c .before .loop in
+returns c = let l = c .before .loop in
     let a = c .before .before .args in
     packed-all (test (a .rows) (a .entries .now) (a .e)) (a .n) (l .i) (l .m) (c .loop-test .left) (l .inv .1)
 

@@ -1,6 +1,6 @@
-use mathlib.Core.Path.{_≡_, refl, sym, ap, _∙_}
+use mathlib.Core.Path.{_≡_, refl, sym, ap}
 use mathlib.Core.Bool.{Bool, true, false, not, _&&_, _||_, cond}
-use mathlib.Core.Option.{Option, none, some}
+use mathlib.Core.Option.{none, some}
 use Rattle.base.specs.Tests.{true≢false}
 use Rattle.entry.specs.declared.Entry.{Entry}
 use Rattle.entry.specs.Entry.{less}
@@ -8,9 +8,6 @@ use Rattle.votes.specs.Steps.{lowered}
 use borrow.Author.Needs.{needs}
 use Rattle.votes.proofs.search.lower.Statement.{statement}
 use Rattle.votes.proofs.search.lower.Tie as tie
-use Rattle.votes.proofs.search.lower.Reads as reads
-use Rattle.votes.proofs.search.lower.Lts as lts
-use Rattle.entry.proofs.less.Reads as less-reads
 
 -- The old entry stays where the new one does not pass, or the old one is smaller.
 kept : (p f l : Bool) (e o : Entry) → l ≡ less o e → (not p || (f && l)) ≡ true → cond f (some o) none ≡ lowered p e (cond f (some o) none)
@@ -29,12 +26,12 @@ less-requires : tie.Need-less-requires
 less-requires c κs = search needs
 
 returns : tie.Need-returns
-returns c =     let le = c .before .before in
+returns c = let le = c .before .before in
     let a = le .before .before .args in
     kept (a .passes) (a .b .found) (le .less .result) (a .e) (a .b .entry) (le .less .ensures) (c .if1 .taken)
 
 returns-2 : tie.Need-returns-2
-returns-2 c =     let le = c .before .before in
+returns-2 c = let le = c .before .before in
     let a = le .before .before .args in
     replaced (a .passes) (a .b .found) (le .less .result) (a .e) (a .b .entry) (le .less .ensures) (c .if1 .left)
 

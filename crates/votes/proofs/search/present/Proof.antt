@@ -1,7 +1,6 @@
 use Prim.Native.Nat.{ℕ, _≤_, _<_, _-_, _+_, _*_, _^_}
-use mathlib.Core.Path.{_≡_, refl, sym, ap, ap₂, _∙_}
+use mathlib.Core.Path.{_≡_, refl, ap₂, _∙_}
 use mathlib.Core.Bool.{Bool, _&&_}
-use mathlib.Core.List.{List}
 use native.Mathlib.Omega.{arith}
 use mir.Val.{boolByte}
 use Rattle.seats.specs.Mask.{bit, packed}
@@ -14,11 +13,6 @@ use Rattle.votes.specs.Rows.{votesOf, tableOf, voteAt, hasRow}
 use borrow.Author.Needs.{needs}
 use Rattle.votes.proofs.search.present.Statement.{statement}
 use Rattle.votes.proofs.search.present.Tie as tie
-use Rattle.votes.proofs.search.present.Reads as reads
-use Rattle.votes.proofs.search.present.Lts as lts
-use Rattle.seats.proofs.mask.has.Reads as has-reads
-use Rattle.votes.proofs.valid.valid_if.Reads as valid-if-reads
-use Rattle.votes.proofs.valid.vote_at.Reads as vote-at-reads
 
 -- The flag of a row is the test of it.
 has-row : (n f : ℕ) (v : View) (t : VoteRows) (k : ℕ) {r h : Bool} {x : Vote} → r ≡ (h && valid n f v x) → h ≡ bit (t .filled) k → x ≡ voteAt (t .votes) k → r ≡ hasRow n f v t k
@@ -32,7 +26,7 @@ abbrev μ-loop : tie.MeasureT-loop
 μ-loop filled cast verified entries masks views n f v i₀ m₀ i m = i
 
 loop-holds : tie.Need-loop-holds Inv-loop μ-loop
-loop-holds c =     let a = c .args in
+loop-holds c = let a = c .args in
     (omega arith, packed-none (hasRow (a .n) (a .f) (a .v) (tableOf (a .filled) (votesOf (a .cast) (a .verified) (a .entries .now) (a .masks .now) (a .views .now)))) (a .n) (a .n) refl)
 
 sub-i : tie.Need-sub-i Inv-loop μ-loop
@@ -74,7 +68,7 @@ loop-again : tie.Need-loop-again Inv-loop μ-loop
 loop-again c = (omega arith, next c .0)
 
 returns : tie.Need-returns Inv-loop μ-loop
-returns c =     let l = c .before .loop in
+returns c = let l = c .before .loop in
     let a = c .before .before .args in
     packed-all (hasRow (a .n) (a .f) (a .v) (tableOf (a .filled) (votesOf (a .cast) (a .verified) (a .entries .now) (a .masks .now) (a .views .now)))) (a .n) (l .i) (l .m) (c .loop-test .left) (l .inv .1)
 

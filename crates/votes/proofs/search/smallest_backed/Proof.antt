@@ -15,13 +15,6 @@ use Rattle.votes.specs.Steps.{found, lowered}
 use borrow.Author.Needs.{needs}
 use Rattle.votes.proofs.search.smallest_backed.Statement.{statement}
 use Rattle.votes.proofs.search.smallest_backed.Tie as tie
-use Rattle.votes.proofs.search.smallest_backed.Reads as reads
-use Rattle.votes.proofs.search.smallest_backed.Lts as lts
-use Rattle.entry.proofs.table.entry_at.Reads as entry-at-reads
-use Rattle.entry.proofs.zero.Reads as zero-reads
-use Rattle.seats.proofs.mask.has.Reads as has-reads
-use Rattle.votes.proofs.search.backing_if.Reads as backing-if-reads
-use Rattle.votes.proofs.search.lower.Reads as lower-reads
 
 -- How many rows of the mask are for an entry.
 abbrev rowsFor : ℕ → List ℕ → ℕ → Entry → ℕ
@@ -69,23 +62,22 @@ loop-less : tie.Need-loop-less Inv-loop μ-loop
 loop-less c = search needs
 
 loop-again : tie.Need-loop-again Inv-loop μ-loop
-loop-again c =     let ba = c .before in
+loop-again c = let ba = c .before in
     let ha = ba .before in
     let en = ha .before in
     let l = en .before .before .loop in
     let a = en .before .before .before .before .args in
     let es = a .entries .now in
     let flag : (ha .has .result && leb (a .need) (ba .backing-if .result)) ≡ backed (a .rows) es (a .n) (a .need) (l .i) =
-        ap (λ x. ha .has .result && leb (a .need) x) (ba .backing-if .ensures) ∙ asked (ha .has .result) (a .need) (rowsFor (a .rows) es (a .n) (en .entry-at .result))
-        ∙ ap₂ (λ x e. x && leb (a .need) (rowsFor (a .rows) es (a .n) e)) (ha .has .ensures) (en .entry-at .ensures) in
-    (
+    ap (λ x. ha .has .result && leb (a .need) x) (ba .backing-if .ensures) ∙ asked (ha .has .result) (a .need) (rowsFor (a .rows) es (a .n) (en .entry-at .result))
+    ∙ ap₂ (λ x e. x && leb (a .need) (rowsFor (a .rows) es (a .n) e)) (ha .has .ensures) (en .entry-at .ensures) in (
       omega arith,
       c .lower .ensures ∙ again flag (en .entry-at .ensures) (l .inv .1)
-      ∙ sym (smallest-more (backed (a .rows) es (a .n) (a .need)) (entryAt es) (l .i)),
+          ∙ sym (smallest-more (backed (a .rows) es (a .n) (a .need)) (entryAt es) (l .i)),
     )
 
 returns : tie.Need-returns Inv-loop μ-loop
-returns c =     let l = c .before .loop in
+returns c = let l = c .before .loop in
     let a = c .before .before .before .args in
     let all : l .i ≡ a .n = omega arith in
     l .inv .1 ∙ ap (smallest (backed (a .rows) (a .entries .now) (a .n) (a .need)) (entryAt (a .entries .now))) all

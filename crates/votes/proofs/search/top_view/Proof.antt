@@ -11,11 +11,6 @@ use Rattle.seats.specs.Mask.{bit}
 use borrow.Author.Needs.{needs}
 use Rattle.votes.proofs.search.top_view.Statement.{statement}
 use Rattle.votes.proofs.search.top_view.Tie as tie
-use Rattle.votes.proofs.search.top_view.Reads as reads
-use Rattle.votes.proofs.search.top_view.Lts as lts
-use Rattle.base.proofs.larger.Reads as larger-reads
-use Rattle.base.proofs.pick_count.Reads as pick-count-reads
-use Rattle.seats.proofs.mask.has.Reads as has-reads
 
 -- The view of a row of the mask, 0 of any other.
 abbrev view : ℕ → List ℕ → ℕ → ℕ
@@ -52,19 +47,18 @@ loop-less : tie.Need-loop-less Inv-loop μ-loop
 loop-less c = search needs
 
 loop-again : tie.Need-loop-again Inv-loop μ-loop
-loop-again c =     let pc = c .before in
+loop-again c = let pc = c .before in
     let has = pc .before .before in
     let l = has .before .before .loop in
-    let a = has .before .before .before .args in
-    (
+    let a = has .before .before .before .args in (
       omega arith,
       c .larger .ensures
-      ∙ ap₂ larger (pc .pick-count .ensures ∙ ap (λ b. cond b (getD (a .views .now) (l .i) 0) 0) (has .has .ensures)) (l .inv .1)
-      ∙ sym (highest-more (view (a .rows) (a .views .now)) (l .i)),
+          ∙ ap₂ larger (pc .pick-count .ensures ∙ ap (λ b. cond b (getD (a .views .now) (l .i) 0) 0) (has .has .ensures)) (l .inv .1)
+          ∙ sym (highest-more (view (a .rows) (a .views .now)) (l .i)),
     )
 
 returns : tie.Need-returns Inv-loop μ-loop
-returns c =     let l = c .before .loop in
+returns c = let l = c .before .loop in
     let a = c .before .before .args in
     let all : l .i ≡ a .n = omega arith in
     l .inv .1 ∙ ap (highest (view (a .rows) (a .views .now))) all

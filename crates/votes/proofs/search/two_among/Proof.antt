@@ -1,8 +1,8 @@
 use Prim.Native.Nat.{ℕ, _<_, _-_}
 use mathlib.Core.Path.{_≡_, refl, sym, ap₂, _∙_}
-use mathlib.Core.Bool.{true, false}
+use mathlib.Core.Bool.{false}
 use native.Mathlib.Omega.{arith}
-use lib.Dec.{T, not-T}
+use lib.Dec.{T}
 use Rattle.base.specs.Tests.{is-true, is-false, true-is, true≢false, but-not, not-but}
 use Rattle.entry.specs.Entry.{same}
 use Rattle.entry.specs.Table.{entryAt}
@@ -12,11 +12,6 @@ use Rattle.votes.proofs.Pairs.{two-yes, two-no, two-one, below-next}
 use borrow.Author.Needs.{needs}
 use Rattle.votes.proofs.search.two_among.Statement.{statement}
 use Rattle.votes.proofs.search.two_among.Tie as tie
-use Rattle.votes.proofs.search.two_among.Reads as reads
-use Rattle.votes.proofs.search.two_among.Lts as lts
-use Rattle.entry.proofs.same.Reads as same-reads
-use Rattle.entry.proofs.table.entry_at.Reads as entry-at-reads
-use Rattle.seats.proofs.mask.has.Reads as has-reads
 
 abbrev Inv-loop : tie.InvT-loop
 Inv-loop rows entries n end differ₀ i a j₀ differ j = (differ ≡ false) × ((k : ℕ) → k < j → i < k → T (bit rows k) → entryAt entries i ≡ entryAt entries k)
@@ -61,19 +56,18 @@ loop-less : tie.Need-loop-less Inv-loop μ-loop Inv-search μ-search
 loop-less c = search needs
 
 loop-again : tie.Need-loop-again Inv-loop μ-loop Inv-search μ-search
-loop-again c =     let sa = c .before in
+loop-again c = let sa = c .before in
     let ha = sa .before in
     let en = ha .before in
     let l = en .before .before .loop in
     let first = en .before .before .before in
     let se = first .before .before .before .before in
     let a = se .before .args in
-    let i = se .search .i in
-    (
+    let i = se .search .i in (
       l .inv .0,
       below-next (λ k. i < k → T (bit (a .rows) k) → entryAt (a .entries .now) i ≡ entryAt (a .entries .now) k) (l .j) (l .inv .1)
-      (λ h b. same-eq _ _ (is-true _ (sym (sa .same .ensures ∙ ap₂ same (first .entry-at .ensures) (en .entry-at2 .ensures))
-      ∙ not-but (ha .has2 .result) (sa .same .result) (c .if2 .left) (ha .has2 .ensures ∙ true-is _ b)))),
+          (λ h b. same-eq _ _ (is-true _ (sym (sa .same .ensures ∙ ap₂ same (first .entry-at .ensures) (en .entry-at2 .ensures))
+          ∙ not-but (ha .has2 .result) (sa .same .result) (c .if2 .left) (ha .has2 .ensures ∙ true-is _ b)))),
     )
 
 add-i : tie.Need-add-i Inv-loop μ-loop Inv-search μ-search
@@ -83,19 +77,19 @@ search-less : tie.Need-search-less Inv-loop μ-loop Inv-search μ-search
 search-less c = search needs
 
 search-again : tie.Need-search-again Inv-loop μ-loop Inv-search μ-search
-search-again c =     let ha = c .before in
+search-again c = let ha = c .before in
     let se = ha .before .before in
     let a = se .before .args in
     (se .search .inv .0, below-next (λ k. bit (a .rows) k ≡ false) (se .search .i) (se .search .inv .1) (sym (ha .has .ensures) ∙ c .if1 .left))
 
 returns : tie.Need-returns Inv-loop μ-loop Inv-search μ-search
-returns c =     let se = c .before in
+returns c = let se = c .before in
     let a = se .before .args in
     se .search .inv .0
     ∙ two-no (a .n) (bit (a .rows)) (entryAt (a .entries .now)) (λ i j hi hj bi bj. true≢false (sym (true-is _ bi) ∙ se .search .inv .1 i (omega arith)))
 
 returns-2 : tie.Need-returns-2 Inv-loop μ-loop Inv-search μ-search
-returns-2 c =     let sa = c .before in
+returns-2 c = let sa = c .before in
     let ha = sa .before in
     let en = ha .before in
     let lo = en .before .before in
@@ -108,7 +102,7 @@ returns-2 c =     let sa = c .before in
     (is-false _ (sym (sa .same .ensures ∙ ap₂ same (first .entry-at .ensures) (en .entry-at2 .ensures)) ∙ t .1))
 
 returns-3 : tie.Need-returns-3 Inv-loop μ-loop Inv-search μ-search
-returns-3 c =     let lo = c .before in
+returns-3 c = let lo = c .before in
     let se = lo .before .before .before .before .before in
     let a = se .before .args in
     lo .loop .inv .0

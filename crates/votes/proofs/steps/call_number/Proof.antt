@@ -2,10 +2,6 @@ use Rattle.votes.specs.RowLaws.{call-after-sizes}
 use borrow.Author.Needs.{needs}
 use Rattle.votes.proofs.steps.call_number.Statement.{statement}
 use Rattle.votes.proofs.steps.call_number.Tie as tie
-use Rattle.votes.proofs.steps.call_number.Reads as reads
-use Rattle.votes.proofs.steps.call_number.Lts as lts
-use Rattle.base.proofs.pick.Reads as pick-reads
-use Rattle.seats.proofs.sizes.size_number.Reads as size-number-reads
 
 size-number-requires : tie.Need-size-number-requires
 size-number-requires c κs = search needs
@@ -17,7 +13,7 @@ pick-requires-2 : tie.Need-pick-requires-2
 pick-requires-2 c κs = search needs
 
 returns : tie.Need-returns
-returns c =     let a = c .before .before .before .before .args in
+returns c = let a = c .before .before .before .before .args in
     simp (c .pick2 .ensures, c .before .pick .ensures, c .before .before .before .size-number .ensures) (call-after-sizes (a .n) (a .f) (a .v))
 
 pub call-number-spec : {M : Type 1} → statement M

@@ -4,13 +4,11 @@ use mathlib.Core.Bool.{Bool}
 use native.Mathlib.Omega.{arith}
 use lib.Bits.{bitAnd}
 use Rattle.base.specs.Tests.{and-l}
-use Rattle.seats.specs.Mask.{bit, mask, seatsIn}
+use Rattle.seats.specs.Mask.{bit, seatsIn}
 use Rattle.seats.specs.SizeLaws.{Allowed}
 use Rattle.seats.specs.Marks.{marks-of, marks-below}
 use Rattle.votes.specs.declared.Vote.{Vote}
-use Rattle.votes.specs.declared.Choice.{Choice}
 use Rattle.votes.specs.declared.Selected.{Selected}
-use Rattle.votes.specs.Selection.{selection}
 use Rattle.votes.specs.SelectionExt.{selection-ext}
 use Rattle.votes.specs.Rows.{votesOf, tableOf, voteAt, hasRow, chosen, callNumber}
 use Rattle.votes.specs.RowLaws.{call-taken, answered-refused, answered-taken}
@@ -19,14 +17,6 @@ use Rattle.votes.proofs.Masked.{waits-few}
 use borrow.Author.Needs.{needs}
 use Rattle.votes.proofs.steps.choose_among.Statement.{statement}
 use Rattle.votes.proofs.steps.choose_among.Tie as tie
-use Rattle.votes.proofs.steps.choose_among.Reads as reads
-use Rattle.votes.proofs.steps.choose_among.Lts as lts
-use Rattle.seats.proofs.mask.below.Reads as below-reads
-use Rattle.seats.proofs.mask.seats_in.Reads as seats-in-reads
-use Rattle.seats.proofs.sizes.quorum.Reads as quorum-reads
-use Rattle.votes.proofs.search.present.Reads as present-reads
-use Rattle.votes.proofs.steps.call_number.Reads as call-number-reads
-use Rattle.votes.proofs.steps.five_steps.Reads as five-steps-reads
 
 -- The rows and the votes of the table that was lent.
 abbrev has : tie.Start → ℕ → Bool
@@ -46,7 +36,7 @@ call-number-requires c κs = search needs
 
 returns : tie.Need-returns
 unfolding chosen
-returns c =     let e = c .before .call-number .ensures in
+returns c = let e = c .before .call-number .ensures in
     ap Selected.Refused e ∙ answered-refused _ _ (λ z. c .if1 .taken (e ∙ z))
 
 below-requires : tie.Need-below-requires
@@ -60,7 +50,7 @@ quorum-requires c κs = search needs
 
 returns-2 : tie.Need-returns-2
 unfolding chosen hasRow
-returns-2 c =     let quorum = c .before in
+returns-2 c = let quorum = c .before in
     let counted = quorum .before in
     let below = counted .before in
     let if1 = below .before in
@@ -76,14 +66,14 @@ present-requires : tie.Need-present-requires
 present-requires c κs = allowed (c .before .before .before .before) .most
 
 five-steps-requires : tie.Need-five-steps-requires
-five-steps-requires c κs =     let if1 = c .before .before .before .before .before in
+five-steps-requires c κs = let if1 = c .before .before .before .before .before in
     let s = if1 .before .before in
     let a = allowed if1 in
     (omega (arith, a .least), a .most, marks-of (s .args .n) (c .present .result) (has s) (c .present .ensures) .below)
 
 returns-3 : tie.Need-returns-3
 unfolding chosen voteAt
-returns-3 c =     let pr = c .before in
+returns-3 c = let pr = c .before in
     let if1 = pr .before .before .before .before .before in
     let s = if1 .before .before in
     let rows = marks-of (s .args .n) (pr .present .result) (has s) (pr .present .ensures) in

@@ -21,19 +21,6 @@ use Rattle.votes.proofs.Masked.{Counted, Topped, waits-few, frees, firs
 use borrow.Author.Needs.{needs}
 use Rattle.votes.proofs.steps.five_steps.Statement.{statement}
 use Rattle.votes.proofs.steps.five_steps.Tie as tie
-use Rattle.votes.proofs.steps.five_steps.Reads as reads
-use Rattle.votes.proofs.steps.five_steps.Lts as lts
-use Rattle.entry.proofs.table.entry_at.Reads as entry-at-reads
-use Rattle.seats.proofs.leader.Reads as leader-reads
-use Rattle.seats.proofs.mask.seats_in.Reads as seats-in-reads
-use Rattle.seats.proofs.mask.with_seat.Reads as with-seat-reads
-use Rattle.seats.proofs.mask.without.Reads as without-reads
-use Rattle.seats.proofs.sizes.quorum.Reads as quorum-reads
-use Rattle.votes.proofs.search.at_view.Reads as at-view-reads
-use Rattle.votes.proofs.search.forced_to.Reads as forced-to-reads
-use Rattle.votes.proofs.search.smallest_backed.Reads as smallest-backed-reads
-use Rattle.votes.proofs.search.top_view.Reads as top-view-reads
-use Rattle.votes.proofs.search.two_among.Reads as two-among-reads
 
 abbrev vote : tie.Start → ℕ → Vote
 vote s = voteAt (bareVotes (s .args .cast) (s .args .entries .now) (s .args .views .now))
@@ -115,14 +102,14 @@ seats-in-requires : tie.Need-seats-in-requires
 seats-in-requires c κs = search needs
 
 returns : tie.Need-returns
-returns c =     let quorum = c .before .before in
+returns c = let quorum = c .before .before in
     let s = quorum .before in
     let few : seatsIn (s .args .rows) < s .args .n - s .args .f = omega (arith, quorum .quorum .ensures, c .before .seats-in .ensures, c .if1 .taken) in
     waits-few (s .args .n) (s .args .f) (bit (s .args .rows)) (vote s) (s .pre .1) (s .args .rows) (bit (s .args .rows)) (these s) (λ k t. t) few
 
 returns-2 : tie.Need-returns-2
 unfolding counted
-returns-2 c =     let if1 = c .before in
+returns-2 c = let if1 = c .before in
     let s = if1 .before .before .before in
     frees (s .args .n) (s .args .f) (bit (s .args .rows)) (vote s) (s .pre .1) (counted if1) (c .if2 .taken)
 
@@ -143,7 +130,7 @@ entry-at-requires c κs = search needs
 
 returns-3 : tie.Need-returns-3
 unfolding voteAt topped
-returns-3 c =     let two = c .before .before in
+returns-3 c = let two = c .before .before in
     let at = two .before in
     let s = at .before .before .before .before .before .before in
     ap Choice.Forced (c .entry-at .ensures)
@@ -166,7 +153,7 @@ seats-in-requires-2 c κs = search needs
 
 returns-4 : tie.Need-returns-4
 unfolding voteAt topped
-returns-4 c =     let wo = c .before .before in
+returns-4 c = let wo = c .before .before in
     let if3 = wo .before .before .before .before in
     let two = if3 .before in
     let at = two .before in
@@ -190,7 +177,7 @@ forced-to-requires c κs = search needs
 
 returns-5 : tie.Need-returns-5
 unfolding voteAt topped
-returns-5 c =     let sm = c .before in
+returns-5 c = let sm = c .before in
     let left = sm .before in
     let if4 = left .before in
     let wo = if4 .before .before in

@@ -2,10 +2,6 @@ use Rattle.votes.specs.Vote.{valid}
 use borrow.Author.Needs.{needs}
 use Rattle.votes.proofs.valid.valid.Statement.{statement}
 use Rattle.votes.proofs.valid.valid.Tie as tie
-use Rattle.votes.proofs.valid.valid.Reads as reads
-use Rattle.votes.proofs.valid.valid.Lts as lts
-use Rattle.entry.proofs.well_formed.Reads as well-formed-reads
-use Rattle.seats.proofs.certificate.good_certificate.Reads as good-certificate-reads
 
 returns : tie.Need-returns
 unfolding valid

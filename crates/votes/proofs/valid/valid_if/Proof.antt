@@ -1,9 +1,6 @@
 use borrow.Author.Needs.{needs}
 use Rattle.votes.proofs.valid.valid_if.Statement.{statement}
 use Rattle.votes.proofs.valid.valid_if.Tie as tie
-use Rattle.votes.proofs.valid.valid_if.Reads as reads
-use Rattle.votes.proofs.valid.valid_if.Lts as lts
-use Rattle.votes.proofs.valid.valid.Reads as valid-reads
 
 valid-requires : tie.Need-valid-requires
 valid-requires c κs = search needs

@@ -2,10 +2,6 @@ use Rattle.votes.specs.Rows.{voteAt}
 use borrow.Author.Needs.{needs}
 use Rattle.votes.proofs.valid.vote_at.Statement.{statement}
 use Rattle.votes.proofs.valid.vote_at.Tie as tie
-use Rattle.votes.proofs.valid.vote_at.Reads as reads
-use Rattle.votes.proofs.valid.vote_at.Lts as lts
-use Rattle.entry.proofs.table.entry_at.Reads as entry-at-reads
-use Rattle.seats.proofs.mask.has.Reads as has-reads
 
 entry-at-requires : tie.Need-entry-at-requires
 entry-at-requires c κs = search needs

@@ -1,0 +1,46 @@
+-- Of a list whose numbers rise, `first` is the lowest that applies, and 0 only where none does.
+use Prim.Native.Nat.{ℕ, _≤_, _<_}
+use mathlib.Core.Bool.{Bool, true, false, _&&_, cond}
+use mathlib.Core.List.{[], _∷_}
+use mathlib.Core.Logic.{_⊎_, inl, inr}
+use mathlib.Core.Path.{_≡_, refl, sym, _∙_}
+use native.Mathlib.Omega.{arith}
+use lib.Dec.{T, ltb, ltb→lt}
+use Rattle.base.specs.Refusal.{Refusals, first}
+use Rattle.base.specs.Tests.{and-l, and-r, is-true, true-is, true≢false}
+
+-- The numbers rise from above k on.
+abbrev pub rising : ℕ → Refusals → Bool
+rising k [] = true
+rising k (r ∷ rs) = ltb k (r .0) && rising (r .0) rs
+
+-- Number k stands in the list, and it applies.
+abbrev pub Applies : ℕ → Refusals → Type 0
+Applies k [] = ⊥
+Applies k (r ∷ rs) = ((r .0 ≡ k) × T (r .1)) ⊎ Applies k rs
+
+above : (j : ℕ) (rs : Refusals) → T (rising j rs) → (k : ℕ) → Applies k rs → j < k
+above j [] t k a = absurd a
+above j (r ∷ rs) t k a = elim a [
+  | inl h ↦ omega (arith, h .0, ltb→lt j (r .0) (and-l (ltb j (r .0)) (rising (r .0) rs) t))
+  | inr h ↦ omega (arith, ltb→lt j (r .0) (and-l (ltb j (r .0)) (rising (r .0) rs) t), above (r .0) rs (and-r (ltb j (r .0)) (rising (r .0) rs) t) k h)
+]
+
+-- "Where several apply, the lowest is given."
+pub first-lowest : (j : ℕ) (rs : Refusals) → T (rising j rs) → (k : ℕ) → Applies k rs → (first rs ≤ k) × Applies (first rs) rs
+first-lowest j [] t k a = absurd a
+first-lowest j (r ∷ rs) t k a = go (r .1) refl a (λ h. first-lowest (r .0) rs later k h)
+  where
+    later : T (rising (r .0) rs)
+    later = and-r (ltb j (r .0)) (rising (r .0) rs) t
+
+    go : (b : Bool) → r .1 ≡ b → Applies k (r ∷ rs) → (Applies k rs → (first rs ≤ k) × Applies (first rs) rs)
+        → (cond b (r .0) (first rs) ≤ k) × (((r .0 ≡ cond b (r .0) (first rs)) × T (r .1)) ⊎ Applies (cond b (r .0) (first rs)) rs)
+    go true e (inl h) rec = (omega (arith, h .0), inl (refl, h .1))
+    go true e (inr h) rec = (omega (arith, above (r .0) rs later k h), inl (refl, is-true (r .1) e))
+    go false e (inl h) rec = true≢false (sym (true-is (r .1) (h .1)) ∙ e)
+    go false e (inr h) rec = let i = rec h in (i .0, inr (i .1))
+
+-- "0 means taken."
+pub first-none : (j : ℕ) (rs : Refusals) → T (rising j rs) → first rs ≡ 0 → (k : ℕ) → Applies k rs → ⊥
+first-none j rs t e k a = omega (arith, above j rs t (first rs) (first-lowest j rs t k a .1))
