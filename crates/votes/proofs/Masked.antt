@@ -1,5 +1,5 @@
 -- What the code's masks make of each of the five steps, over any rows.
-use Prim.Native.Nat.{ℕ, zero, suc, _-_, _*_, _≤_, _<_}
+use Prim.Native.Nat.{ℕ, zero, suc, _-_, _≤_, _<_}
 use mathlib.Core.Bool.{Bool, true, false, not, _&&_, cond}
 use mathlib.Core.Logic.{_⊎_, inl, inr}
 use mathlib.Core.Option.{Option, none, some}
@@ -19,7 +19,7 @@ use Rattle.seats.specs.Mask.{bit, mask, seatsIn}
 use Rattle.seats.specs.Marks.{Marks, marks-seats, seats-none, marks-mask, marks-lowest, marks-pos}
 use Rattle.votes.specs.declared.Vote.{Vote}
 use Rattle.votes.specs.declared.Choice.{Choice}
-use Rattle.votes.specs.Selection.{smallest, forcedTo, selection, isCast, isAt, topView, twoAt, isOther, otherAt, rowsFor, afterTwo, atTop, entryOf}
+use Rattle.votes.specs.Selection.{smallest, forcedTo, selection, isCast, isAt, topView, twoAt, isOther, otherAt, rowsFor, afterTwo, atTop, entryOf, support}
 use Rattle.votes.specs.Smallest.{smallest-ext, smallest-some, smallest-no}
 use Rattle.votes.proofs.Pairs.{two-alike}
 
@@ -161,7 +161,7 @@ module _ (n f : ℕ) (has : ℕ → Bool) (vote : ℕ → Vote) (room : n ≤ 64
         past-3 = past-2 ∙ ap (λ x. cond x (afterTwo n f has vote (t .w)) (forcedTo (smallest (isAt n f has vote (t .w)) entry n))) (sym b-is ∙ e)
 
         abbrev backed : ℕ → Bool
-        backed k = otherAt n f has vote (t .w) k && leb (2 * f) (rowsFor n f has vote (t .w) (entry k))
+        backed k = otherAt n f has vote (t .w) k && leb (support f) (rowsFor n f has vote (t .w) (entry k))
 
         -- 4: fewer than n − f rows of seats other than w's leader.
         pub waits-others : seatsIn others < quorum n f → Choice.Wait ≡ selection n f has vote
@@ -173,14 +173,14 @@ module _ (n f : ℕ) (has : ℕ → Bool) (vote : ℕ → Vote) (room : n ≤ 64
 
         -- 5: the smallest entry that 2f of them are for.
         pub settles : quorum n f ≤ seatsIn others → (left : ℕ) → Marks n left (otherAt n f has vote (t .w)) → (o : Option Entry)
-            → o ≡ smallest (λ k. bit left k && leb (2 * f) (seatsIn (mask (λ j. bit left j && same (entry j) (entry k)) n))) entry n
+            → o ≡ smallest (λ k. bit left k && leb (support f) (seatsIn (mask (λ j. bit left j && same (entry j) (entry k)) n))) entry n
             → forcedTo o ≡ selection n f has vote
         unfolding afterTwo rowsFor
         settles h left ml o eo =
             sym
             (past-3
             ∙ ap (λ x. cond x Choice.Wait (forcedTo (smallest backed entry n))) (le-ltb (count (isOther n f has vote (t .w)) n) (quorum n f) (omega (arith, marks-seats room mo)))
-            ∙ ap forcedTo (sym (eo ∙ smallest-ext _ _ entry entry n (λ k l. ap₂ (λ x y. x && leb (2 * f) y) (ml .at k l) (backing (entry k))) (λ k l s. refl))))
+            ∙ ap forcedTo (sym (eo ∙ smallest-ext _ _ entry entry n (λ k l. ap₂ (λ x y. x && leb (support f) y) (ml .at k l) (backing (entry k))) (λ k l s. refl))))
           where
             backing : (y : Entry) → seatsIn (mask (λ j. bit left j && same (entry j) y) n) ≡ rowsFor n f has vote (t .w) y
             backing y =

@@ -17,7 +17,7 @@ use Rattle.votes.specs.declared.Rows.{Rows}
 use Rattle.votes.specs.declared.Selected.{Selected}
 use Rattle.votes.specs.Selection.{selection}
 use Rattle.votes.specs.SelectionExt.{SameVote, selection-ext}
-use Rattle.votes.specs.Rows.{voteAt, withVote, hasSeat, voteOf, rising, sound, allSound, broken, answered, callNumber, rowsNumber, selected, noRows, oneMore, added, gathered, selectedFrom}
+use Rattle.votes.specs.Rows.{voteAt, withVote, hasSeat, voteOf, follower, rising, sound, allSound, broken, answered, callNumber, rowsNumber, selected, noRows, oneMore, added, gathered, selectedFrom}
 use Rattle.votes.specs.RowLaws.{call-taken, rows-refused, rows-taken}
 use Rattle.votes.specs.TableLaws.{Sized, none-sized, with-sized, filled-at, vote-same, vote-other}
 
@@ -50,7 +50,7 @@ gathered-broken t [] = alone (t .broken)
     alone false = refl
 gathered-broken t (r ∷ rs) =
     gathered-broken (added t r) rs
-    ∙ regroup (t .broken) (leb (t .next) (r .seat .0) && ltb (r .seat .0) (t .n)) (sound (t .n) (t .f) (t .view) r) (rising (t .n) (r .seat .0 + 1) rs)
+    ∙ regroup (t .broken) (leb (t .next) (r .seat .0) && ltb (r .seat .0) (t .n)) (sound (t .n) (t .f) (t .view) r) (rising (t .n) (follower r) rs)
     (allSound (t .n) (t .f) (t .view) rs)
 
 -- ---- they are counted as far as n needs
@@ -69,19 +69,19 @@ gathered-count t (r ∷ rs) n h = gathered-count (added t r) rs n h ∙ go (ltb 
 rising-above : (n s : ℕ) (rs : List Row) (k : ℕ) → T (rising n s rs) → k < s → hasSeat rs k ≡ false
 rising-above n s [] k t h = refl
 rising-above n s (r ∷ rs) k t h =
-    let here = and-l (leb s (r .seat .0) && ltb (r .seat .0) n) (rising n (r .seat .0 + 1) rs) t in
+    let here = and-l (leb s (r .seat .0) && ltb (r .seat .0) n) (rising n (follower r) rs) t in
     let low = leb→le s (r .seat .0) (and-l (leb s (r .seat .0)) (ltb (r .seat .0) n) here) in
-    ap₂ _||_ (ne-eqb (r .seat .0) k (λ e. omega arith)) (rising-above n (r .seat .0 + 1) rs k (and-r (leb s (r .seat .0) && ltb (r .seat .0) n) _ t) (omega arith))
+    ap₂ _||_ (ne-eqb (r .seat .0) k (λ e. omega arith)) (rising-above n (follower r) rs k (and-r (leb s (r .seat .0) && ltb (r .seat .0) n) _ t) (omega arith))
 
 module _ (n : ℕ) (small : n ≤ 64) where
   head-low : (s : ℕ) (r : Row) (rs : List Row) → T (rising n s (r ∷ rs)) → r .seat .0 < 64
   head-low s r rs t =
-      let here = and-l (leb s (r .seat .0) && ltb (r .seat .0) n) (rising n (r .seat .0 + 1) rs) t in
+      let here = and-l (leb s (r .seat .0) && ltb (r .seat .0) n) (rising n (follower r) rs) t in
       let low = ltb→lt (r .seat .0) n (and-r (leb s (r .seat .0)) (ltb (r .seat .0) n) here) in
       omega arith
 
-  tail-rises : (s : ℕ) (r : Row) (rs : List Row) → T (rising n s (r ∷ rs)) → T (rising n (r .seat .0 + 1) rs)
-  tail-rises s r rs t = and-r (leb s (r .seat .0) && ltb (r .seat .0) n) (rising n (r .seat .0 + 1) rs) t
+  tail-rises : (s : ℕ) (r : Row) (rs : List Row) → T (rising n s (r ∷ rs)) → T (rising n (follower r) rs)
+  tail-rises s r rs t = and-r (leb s (r .seat .0) && ltb (r .seat .0) n) (rising n (follower r) rs) t
 
   gathered-filled : (t : Rows) (rs : List Row) (k : ℕ) → T (rising n (t .next) rs) → bit (gathered t rs .table .filled) k ≡ (bit (t .table .filled) k || hasSeat rs k)
   unfolding added
@@ -117,7 +117,7 @@ module _ (n : ℕ) (small : n ≤ 64) where
           ≡ cond (eqb (r .seat .0) k || hasSeat rs k) (cond (eqb (r .seat .0) k) (r .vote) (voteOf rs k)) (voteAt (t .table .votes) k)
       go true e =
           let here = eqb-true (r .seat .0) k e in
-          ap (λ b. cond b (voteOf rs k) (voteAt (withVote (t .table) (r .seat .0) (r .vote) .votes) k)) (rising-above n (r .seat .0 + 1) rs k (tail-rises (t .next) r rs h) (omega arith))
+          ap (λ b. cond b (voteOf rs k) (voteAt (withVote (t .table) (r .seat .0) (r .vote) .votes) k)) (rising-above n (follower r) rs k (tail-rises (t .next) r rs h) (omega arith))
           ∙ ap (voteAt (withVote (t .table) (r .seat .0) (r .vote) .votes)) (sym here)
           ∙ vote-same (t .table) (r .seat .0) (r .vote) low z
           ∙ sym (ap (λ b. cond (b || hasSeat rs k) (cond b (r .vote) (voteOf rs k)) (voteAt (t .table .votes) k)) e)

@@ -82,10 +82,14 @@ abbrev pub voteOf : List Row → ℕ → Vote
 voteOf [] k = zeroVote
 voteOf (r ∷ rs) k = cond (eqb (r .seat .0) k) (r .vote) (voteOf rs k)
 
+-- The lowest seat that the next row may have.
+abbrev pub follower : Row → ℕ
+follower r = r .seat .0 + 1
+
 -- "seats .. strictly rising" and "below n", from seat s on
 abbrev pub rising : ℕ → ℕ → List Row → Bool
 rising n s [] = true
-rising n s (r ∷ rs) = (leb s (r .seat .0) && ltb (r .seat .0) n) && rising n (r .seat .0 + 1) rs
+rising n s (r ∷ rs) = (leb s (r .seat .0) && ltb (r .seat .0) n) && rising n (follower r) rs
 
 -- "a row with mark `-`, another view or an invalid vote" is not sound
 unfoldable pub sound : ℕ → ℕ → View → Row → Bool
@@ -120,7 +124,7 @@ oneMore c = cond (ltb c 65) (c + 1) c
 unfoldable pub added : Rows → Row → Rows
 added t r = record {
   view = t .view;
-  next = r .seat .0 + 1;
+  next = follower r;
   count = oneMore (t .count);
   n = t .n;
   f = t .f;

@@ -196,7 +196,7 @@ module _ {n f : ℕ} {bad : ℕ → Bool} (house : House n f bad) where
         dead-by-all enough top y l (λ k m t c. d (one y (told-top y k m t c)))))
     way-safe c (forced enough two z r many) x o =
         subst (safe v) o (up-to-top enough z (λ u y p l d. below-two top two u y p l) (λ l y d.
-        dead-by-others top two y l (for top z) many (λ k m t. for-other z k t) (λ k m t c.
+        dead-by-others top two y l (for top z) (omega (arith, many)) (λ k m t. for-other z k t) (λ k m t c.
         let e = told-top y k m (and-l (has k) _ (for-other z k t)) c in
         d (sym (e .is) ∙ same-eq (vote k .entry) z (and-r (otherAt n f has vote top k) _ t)))))
     way-safe c (free enough two many few) x o =

@@ -24,6 +24,10 @@ abbrev pub forcedTo : Option Entry → Choice
 forcedTo none = Choice.Free
 forcedTo (some x) = Choice.Forced x
 
+-- "at least 2f rows"
+abbrev pub support : ℕ → ℕ
+support f = 2 * f
+
 module _ (n f : ℕ) (has : ℕ → Bool) (vote : ℕ → Vote) where
   abbrev pub entryOf : ℕ → Entry
   entryOf k = vote k .entry
@@ -59,7 +63,7 @@ module _ (n f : ℕ) (has : ℕ → Bool) (vote : ℕ → Vote) where
   unfoldable pub afterTwo : ℕ → Choice
   afterTwo w =
       cond (ltb (count (isOther w) n) (quorum n f)) Choice.Wait
-      (forcedTo (smallest (λ k. otherAt w k && leb (2 * f) (rowsFor w (entryOf k))) entryOf n))
+      (forcedTo (smallest (λ k. otherAt w k && leb (support f) (rowsFor w (entryOf k))) entryOf n))
 
   -- Step 3, at the highest view w: "One entry only at w: forced to it."
   unfoldable pub atTop : ℕ → Choice

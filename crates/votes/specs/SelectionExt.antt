@@ -1,5 +1,5 @@
 -- The selection looks at nothing of a row but its vote's cast flag and, where that is set, its view and entry.
-use Prim.Native.Nat.{ℕ, _*_, _<_}
+use Prim.Native.Nat.{ℕ, _<_}
 use mathlib.Core.Path.{_≡_, refl, ap, ap₂, _∙_}
 use mathlib.Core.Bool.{Bool, true, false, not, _&&_, cond}
 use lib.Dec.{T, eqb, leb, ltb}
@@ -10,7 +10,7 @@ use Rattle.seats.specs.Sizes.{quorum}
 use Rattle.seats.specs.Count.{count-ext, highest-ext}
 use Rattle.votes.specs.declared.Vote.{Vote}
 use Rattle.votes.specs.declared.Choice.{Choice}
-use Rattle.votes.specs.Selection.{forcedTo, isCast, topView, isAt, twoAt, otherAt, rowsFor, afterTwo, atTop, selection}
+use Rattle.votes.specs.Selection.{forcedTo, isCast, topView, isAt, twoAt, otherAt, rowsFor, afterTwo, atTop, selection, support}
 use Rattle.votes.specs.Smallest.{smallest-ext}
 
 -- Two votes that say the same: "Unused fields do not count."
@@ -70,7 +70,7 @@ module _ (n f : ℕ) (has has′ : ℕ → Bool) (vote vote′ : ℕ → Vote)
     after-ext = ap₂ (λ c o. cond (ltb c (quorum n f)) Choice.Wait (forcedTo o))
         (count-ext _ _ n (λ k l. and-ext (eh k l) (λ t. refl)))
         (smallest-ext _ _ _ _ n
-        (λ k l. and-ext (other-ext k l) (λ t. ap (leb (2 * f)) (for-ext (vote k .entry) ∙ ap (rowsFor n f has′ vote′ w) (other-entry k l t))))
+        (λ k l. and-ext (other-ext k l) (λ t. ap (leb (support f)) (for-ext (vote k .entry) ∙ ap (rowsFor n f has′ vote′ w) (other-entry k l t))))
         (λ k l t. other-entry k l (and-l (otherAt n f has vote w k) _ t)))
 
     top-choice-ext : atTop n f has vote w ≡ atTop n f has′ vote′ w

@@ -1,5 +1,5 @@
 -- How the selection comes to its answer: four ways leave an entry open.
-use Prim.Native.Nat.{ℕ, zero, suc, _-_, _*_, _≤_, _<_}
+use Prim.Native.Nat.{ℕ, zero, suc, _-_, _≤_, _<_}
 use mathlib.Core.Path.{_≡_, refl, subst}
 use mathlib.Core.Bool.{Bool, true, false, not, _&&_, cond}
 use mathlib.Core.Logic.{inl, inr}
@@ -16,7 +16,7 @@ use Rattle.seats.specs.Sizes.{quorum}
 use Rattle.seats.specs.Count.{count-pos, count-some, highest-le, le-highest}
 use Rattle.votes.specs.declared.Vote.{Vote}
 use Rattle.votes.specs.declared.Choice.{Choice}
-use Rattle.votes.specs.Selection.{smallest, forcedTo, isCast, topView, isAt, twoAt, isOther, otherAt, rowsFor, afterTwo, atTop, selection}
+use Rattle.votes.specs.Selection.{smallest, forcedTo, isCast, topView, isAt, twoAt, isOther, otherAt, rowsFor, afterTwo, atTop, selection, support}
 use Rattle.votes.specs.Smallest.{smallest-some, smallest-no}
 
 -- A row at w for x.
@@ -45,11 +45,11 @@ pub data Way (n f : ℕ) (has : ℕ → Bool) (vote : ℕ → Vote) (w : ℕ) : 
   alone : quorum n f ≤ count has n → (x : Entry) → RowFor n has vote w x → ((y : Entry) → RowFor n has vote w y → y ≡ x)
       → Way n f has vote w (Choice.Forced x)
   -- "if some entry has at least 2f rows at w, forced to it"
-  forced : quorum n f ≤ count has n → Twice n has vote w → (x : Entry) → RowFor n has vote w x → 2 * f ≤ rowsFor n f has vote w x
+  forced : quorum n f ≤ count has n → Twice n has vote w → (x : Entry) → RowFor n has vote w x → support f ≤ rowsFor n f has vote w x
       → Way n f has vote w (Choice.Forced x)
   -- "Else free."
   free : quorum n f ≤ count has n → Twice n has vote w → quorum n f ≤ count (isOther n f has vote w) n
-      → ((k : ℕ) → k < n → T (otherAt n f has vote w k) → rowsFor n f has vote w (vote k .entry) < 2 * f) → Way n f has vote w Choice.Free
+      → ((k : ℕ) → k < n → T (otherAt n f has vote w k) → rowsFor n f has vote w (vote k .entry) < support f) → Way n f has vote w Choice.Free
 
 -- ---- a claim of what a test, or the search for the smallest entry, decides
 by-test : (P : Choice → Type 0) (b : Bool) (c d : Choice) → (T b → P c) → (T (not b) → P d) → P (cond b c d)
@@ -144,15 +144,15 @@ module _ (n f : ℕ) (has : ℕ → Bool) (vote : ℕ → Vote) where
       j = s .seat
 
   -- If the rows' entries have fewer than 2f rows each, so has every entry.
-  pub few-for : (w : ℕ) → ((k : ℕ) → k < n → T (otherAt n f has vote w k) → rowsFor n f has vote w (vote k .entry) < 2 * f) → 1 ≤ f
-      → (y : Entry) → rowsFor n f has vote w y < 2 * f
+  pub few-for : (w : ℕ) → ((k : ℕ) → k < n → T (otherAt n f has vote w k) → rowsFor n f has vote w (vote k .entry) < support f) → 1 ≤ f
+      → (y : Entry) → rowsFor n f has vote w y < support f
   unfolding rowsFor
-  few-for w h p y = elim (decLt (rowsFor n f has vote w y) (2 * f)) [
+  few-for w h p y = elim (decLt (rowsFor n f has vote w y) (support f)) [
     | yes l ↦ l
     | no l ↦
         let s = count-some (λ k. other w k && same (vote k .entry) y) n (omega arith) in
         let e = same-eq (vote (s .0) .entry) y (and-r (other w (s .0)) _ (s .2)) in
-        subst (λ z. rowsFor n f has vote w z < 2 * f) e (h (s .0) (s .1) (and-l (other w (s .0)) _ (s .2)))
+        subst (λ z. rowsFor n f has vote w z < support f) e (h (s .0) (s .1) (and-l (other w (s .0)) _ (s .2)))
   ]
 
   -- ---- the highest view: no row that is not nil has a higher one, and one of them has it
@@ -178,7 +178,7 @@ module _ (n f : ℕ) (has : ℕ → Bool) (vote : ℕ → Vote) where
   W = Way n f has vote top
 
   abbrev heavy : ℕ → Bool
-  heavy k = leb (2 * f) (rowsFor n f has vote top (vote k .entry))
+  heavy k = leb (support f) (rowsFor n f has vote top (vote k .entry))
 
   after-way : quorum n f ≤ count has n → Twice n has vote top → W (afterTwo n f has vote top)
   unfolding afterTwo
@@ -188,12 +188,12 @@ module _ (n f : ℕ) (has : ℕ → Bool) (vote : ℕ → Vote) where
     where
       none-heavy : T (not (ltb (count (isOther n f has vote top) n) (quorum n f))) → ((k : ℕ) → k < n → T (other top k && heavy k) → ⊥) → W Choice.Free
       none-heavy s no-row = free enough two (nltb→le (count (isOther n f has vote top) n) (quorum n f) s)
-          (λ k l o. nleb→lt (2 * f) _ (not-T (heavy k) (λ b. no-row k l (and-i (other top k) (heavy k) o b))))
+          (λ k l o. nleb→lt (support f) _ (not-T (heavy k) (λ b. no-row k l (and-i (other top k) (heavy k) o b))))
 
       a-heavy : (k : ℕ) → k < n → T (other top k && heavy k) → W (Choice.Forced (vote k .entry))
       a-heavy k l t =
           let r = row-at top k l (and-l (at top k) _ (and-l (other top k) (heavy k) t)) in
-          forced enough two (vote k .entry) r (leb→le (2 * f) _ (and-r (other top k) (heavy k) t))
+          forced enough two (vote k .entry) r (leb→le (support f) _ (and-r (other top k) (heavy k) t))
 
   top-way : quorum n f ≤ count has n → (k : ℕ) → k < n → T (cast k) → W (atTop n f has vote top)
   unfolding atTop
