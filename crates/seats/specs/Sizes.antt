@@ -1,7 +1,7 @@
 -- 01, "Seats, views, entries": n and f, the largest f, and what setup refuses of them.
 use Prim.Native.Nat.{ℕ, zero, suc, _*_, _-_}
 use mathlib.Core.Bool.{Bool, not, _&&_, _||_, cond}
-use mathlib.Core.List.{[], _∷_}
+use mathlib.Core.List.{[], _∷_, _++_}
 use lib.Dec.{eqb, leb, ltb}
 use Rattle.base.specs.Refusal.{Refusals, first}
 use Rattle.seats.specs.declared.Seat.{Seat}
@@ -35,7 +35,7 @@ sizeNumber n f = first (sizeRefusals n f)
 
 -- 3: "own seat is n or more"
 unfoldable pub seatNumber : ℕ → ℕ → Seat → ℕ
-seatNumber n f s = first ((1, not (sizeAllowed n)) ∷ (2, eqb f 0 || ltb (mostFaulty n) f) ∷ (3, leb n (s .0)) ∷ [])
+seatNumber n f s = first (sizeRefusals n f ++ ((3, leb n (s .0)) ∷ []))
 
 -- n − f, the rows that a decision and a selection want
 abbrev pub quorum : ℕ → ℕ → ℕ

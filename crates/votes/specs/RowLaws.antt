@@ -4,12 +4,13 @@ use mathlib.Core.Bool.{Bool, true, false, not, _||_, cond}
 use mathlib.Core.Path.{_≡_, refl, sym, ap, ap₂, _∙_}
 use native.Mathlib.Omega.{arith}
 use lib.Dec.{eqb, ltb}
-use borrow.Author.Tests.{eqb-false, eq-eqb, ne-eqb}
+use borrow.Author.Tests.{eqb-true, eqb-false, eq-eqb, ne-eqb}
 use Rattle.seats.specs.declared.View.{View}
 use Rattle.seats.specs.Sizes.{sizeAllowed, mostFaulty, sizeNumber}
 use Rattle.seats.specs.SizeLaws.{Allowed, sizes-taken}
 use Rattle.votes.specs.declared.Selected.{Selected}
-use Rattle.votes.specs.Rows.{callNumber, rowsNumber, answered}
+use Rattle.votes.specs.declared.Choice.{Choice}
+use Rattle.votes.specs.Rows.{callNumber, rowsNumber, answered, numberOf}
 
 -- 5 is looked at behind 1 and 2.
 pub call-after-sizes : (n f : ℕ) (v : View) → cond (eqb (sizeNumber n f) 0) (cond (eqb (v .0) 0) 5 0) (sizeNumber n f) ≡ callNumber n f v
@@ -55,3 +56,11 @@ answered-refused number s h = sym (ap (λ b. cond b s (Selected.Refused number))
 
 pub answered-taken : (number : ℕ) (s : Selected) → number ≡ 0 → s ≡ answered number s
 answered-taken number s h = sym (ap (λ b. cond b s (Selected.Refused number)) (eq-eqb number 0 h))
+
+-- The number of an answer is the lowest that applies.
+pub answered-number : (number : ℕ) (c : Choice) → numberOf (answered number (Selected.Chosen c)) ≡ number
+answered-number number c = go (eqb number 0) refl
+  where
+    go : (b : Bool) → eqb number 0 ≡ b → numberOf (cond b (Selected.Chosen c) (Selected.Refused number)) ≡ number
+    go true e = sym (eqb-true number 0 e)
+    go false e = refl

@@ -1,14 +1,14 @@
 -- Rows of votes: the leader's table, by seat, and the rows of a request, in a list.
 use Prim.Native.Nat.{ℕ, _+_}
 use mathlib.Core.Bool.{Bool, true, false, not, _&&_, _||_, cond}
-use mathlib.Core.List.{List, [], _∷_}
+use mathlib.Core.List.{List, [], _∷_, _++_}
 use lib.Dec.{eqb, leb, ltb}
 use lib.ListN.{length, getD, set, replicate}
 use Rattle.base.specs.Refusal.{Refusals, first}
 use Rattle.entry.specs.Entry.{zeroEntry}
 use Rattle.entry.specs.Table.{tableWords, entryAt, withEntry}
 use Rattle.seats.specs.declared.View.{View}
-use Rattle.seats.specs.Sizes.{sizeAllowed, mostFaulty}
+use Rattle.seats.specs.Sizes.{sizeRefusals}
 use Rattle.seats.specs.Mask.{bit, withSeat, putSeat}
 use Rattle.votes.specs.declared.Vote.{Vote}
 use Rattle.votes.specs.declared.Votes.{Votes}
@@ -43,13 +43,18 @@ hasRow n f v t k = bit (t .filled) k && valid n f v (voteAt (t .votes) k)
 
 -- "the selection answers 1 or 2 for a bad n or f, 5 for view 0"
 abbrev pub callRefusals : ℕ → ℕ → View → Refusals
-callRefusals n f v = (1, not (sizeAllowed n)) ∷ (2, eqb f 0 || ltb (mostFaulty n) f) ∷ (5, eqb (v .0) 0) ∷ []
+callRefusals n f v = sizeRefusals n f ++ ((5, eqb (v .0) 0) ∷ [])
 
 abbrev pub callNumber : ℕ → ℕ → View → ℕ
 callNumber n f v = first (callRefusals n f v)
 
 abbrev pub answered : ℕ → Selected → Selected
 answered number s = cond (eqb number 0) s (Selected.Refused number)
+
+-- What an answer means: 0 and the choice, or 01's number of refusal.
+abbrev pub numberOf : Selected → ℕ
+numberOf (Selected.Refused number) = number
+numberOf (Selected.Chosen choice) = 0
 
 -- The selection over the leader's table.
 unfoldable pub chosen : ℕ → ℕ → View → VoteRows → Selected
@@ -107,7 +112,7 @@ broken n f v rows = ltb n (length rows) || (not (rising n 0 rows) || not (allSou
 -- "Called by itself, the selection answers 1 or 2 for a bad n or f, 5 for view 0, and 15 for a table that breaks 15's
 -- conditions on rows".
 abbrev pub rowsNumber : ℕ → ℕ → View → Bool → ℕ
-rowsNumber n f v breaks = first ((1, not (sizeAllowed n)) ∷ (2, eqb f 0 || ltb (mostFaulty n) f) ∷ (5, eqb (v .0) 0) ∷ (15, breaks) ∷ [])
+rowsNumber n f v breaks = first (callRefusals n f v ++ ((15, breaks) ∷ []))
 
 unfoldable pub selected : ℕ → ℕ → View → List Row → Selected
 selected n f v rows = answered (rowsNumber n f v (broken n f v rows)) (Selected.Chosen (selection n f (hasSeat rows) (voteOf rows)))
