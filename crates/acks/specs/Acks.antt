@@ -3,10 +3,10 @@ use Prim.Native.Nat.{ℕ}
 use mathlib.Core.Bool.{Bool, not, _&&_, cond}
 use mathlib.Core.List.{List}
 use lib.Dec.{eqb, ltb}
-use lib.ListN.{getD, set}
+use lib.ListN.{getD, set, replicate}
 use lib.IntN.{ℤ, pos, _-ℤ_}
 use Rattle.entry.specs.Entry.{same, zeroEntry}
-use Rattle.entry.specs.Table.{tableSeats, entryAt, withEntry}
+use Rattle.entry.specs.Table.{tableSeats, tableWords, entryAt, withEntry}
 use Rattle.seats.specs.Seats.{count, highest}
 use Rattle.seats.specs.Sizes.{quorum}
 use Rattle.seats.specs.Mask.{mask}
@@ -16,6 +16,10 @@ use Rattle.acks.specs.declared.Acks.{Acks}
 -- The table that two arrays make: the entries, and the views.
 abbrev pub acksOf : List ℕ → List ℕ → Acks
 acksOf es vs = record { entries = es; views = vs }
+
+-- The table whose rows are all empty.
+abbrev pub noAcks : Acks
+noAcks = acksOf (replicate tableWords 0) (replicate tableSeats 0)
 
 abbrev pub emptyRow : AckRow
 emptyRow = record { view = record { 0 = 0 }; entry = zeroEntry }

@@ -1,5 +1,5 @@
 -- Between which numbers the margin lies, and what it is where no row is filled.
-use Prim.Native.Nat.{ℕ, zero, suc, _+_, _-_, _*_, _≤_, _<_}
+use Prim.Native.Nat.{ℕ, zero, suc, _+_, _-_, _≤_, _<_}
 use mathlib.Core.Path.{_≡_, refl, ap, ap₂, _∙_}
 use mathlib.Core.Bool.{Bool, true, false, not, cond}
 use mathlib.Core.Logic.{inl, inr}
@@ -8,7 +8,7 @@ use lib.Dec.{T, T-not, ltb, leb→le, le→leb}
 use lib.IntN.{pos, negsuc, negℤ, _-ℤ_}
 use lib.Signed.{_≤ℤ_, leZ, leZ-yes}
 use borrow.Author.Tests.{lt-ltb}
-use Rattle.seats.specs.Sizes.{quorum}
+use Rattle.seats.specs.Sizes.{fewest, quorum}
 use Rattle.seats.specs.SizeLaws.{Allowed}
 use Rattle.acks.specs.declared.AckRow.{AckRow}
 use Rattle.acks.specs.Acks.{isFilled, most, margin}
@@ -37,7 +37,7 @@ pub margin-range : (n f : ℕ) (row : ℕ → AckRow) → Allowed n f
 unfolding margin
 margin-range n f row a =
     let m = most-le n row in
-    let b = leb→le (5 * f - 1) n (a .fits) in
+    let b = leb→le (fewest f) n (a .fits) in
     let l = a .most in
     let s = a .some in (
       at-least (most n row) (quorum n f) 62 (omega arith),

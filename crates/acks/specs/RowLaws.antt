@@ -12,10 +12,11 @@ use Rattle.base.specs.Tests.{and-l, and-r, and-i}
 use Rattle.entry.specs.declared.Entry.{Entry}
 use Rattle.entry.specs.Entry.{same}
 use Rattle.entry.specs.Laws.{same-eq, same-refl}
+use Rattle.entry.specs.Table.{tableWords}
 use Rattle.entry.specs.TableLaws.{at-same, at-other, at-past, at-zero, with-past, with-length, with-own}
 use Rattle.acks.specs.declared.AckRow.{AckRow}
 use Rattle.acks.specs.declared.Acks.{Acks}
-use Rattle.acks.specs.Acks.{acksOf, emptyRow, viewAt, withView, rowOf, withRow, shares}
+use Rattle.acks.specs.Acks.{noAcks, acksOf, emptyRow, viewAt, withView, rowOf, withRow, shares}
 
 -- ---- the views: as for entries, the view put at k is read there and nowhere else
 pub view-within : (vs : List ℕ) (k : ℕ) → k < 64 → viewAt vs k ≡ getD vs k 0
@@ -66,7 +67,7 @@ abbrev made : ℕ → Entry → AckRow
 made v e = record { view = record { 0 = v }; entry = e }
 
 -- The row that was written is the row that is read.
-pub row-same : (t : Acks) (k : ℕ) (r : AckRow) → k < 64 → length (t .entries) ≡ 128 → length (t .views) ≡ 64 → rowOf (withRow t k r) k ≡ r
+pub row-same : (t : Acks) (k : ℕ) (r : AckRow) → k < 64 → length (t .entries) ≡ tableWords → length (t .views) ≡ 64 → rowOf (withRow t k r) k ≡ r
 unfolding rowOf withRow
 row-same t k r h n m = ap₂ made (view-same (t .views) k (r .view .0) h m) (at-same (t .entries) k (r .entry) h n)
 
@@ -100,7 +101,7 @@ row-sizes t k r = (with-length (t .entries) k (r .entry), go (ltb k 64))
     go false = refl
 
 -- The zero table's rows are empty.
-pub row-zero : (k : ℕ) → rowOf (acksOf (replicate 128 0) (replicate 64 0)) k ≡ emptyRow
+pub row-zero : (k : ℕ) → rowOf noAcks k ≡ emptyRow
 unfolding rowOf
 row-zero k = ap₂ made (view-zero k) (at-zero k)
 

@@ -3,16 +3,20 @@ use Prim.Native.Nat.{ℕ}
 use mathlib.Core.Path.{_≡_}
 use mathlib.Core.List.{List}
 use Rattle.base.specs.Unique.{OneAnswer, one-answer}
+use Rattle.seats.specs.declared.Seat.{Seat}
 use Rattle.acks.specs.declared.AckRow.{AckRow}
 use Rattle.acks.specs.declared.Acks.{Acks}
-use Rattle.acks.specs.Acks.{acksOf, rowOf, withRow, shares, sharers, most, margin}
+use Rattle.acks.specs.Acks.{acksOf, noAcks, rowOf, withRow, shares, sharers, most, margin}
 
 pub unique-row-of : (es vs : List ℕ) (k : ℕ) → OneAnswer (λ r. r ≡ rowOf (acksOf es vs) k)
 unique-row-of es vs k = one-answer (rowOf (acksOf es vs) k)
 
 -- The whole table is answered.
-pub unique-with-row : (t : Acks) (k : ℕ) (row : AckRow) → OneAnswer (λ r. r ≡ withRow t k row)
-unique-with-row t k row = one-answer (withRow t k row)
+pub unique-with-row : (t : Acks) (s : Seat) (row : AckRow) → OneAnswer (λ r. r ≡ withRow t (s .0) row)
+unique-with-row t s row = one-answer (withRow t (s .0) row)
+
+pub unique-none : OneAnswer (λ r. r ≡ noAcks)
+unique-none = one-answer noAcks
 
 pub unique-shares : (a b : AckRow) → OneAnswer (λ r. r ≡ shares a b)
 unique-shares a b = one-answer (shares a b)

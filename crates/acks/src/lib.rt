@@ -3,10 +3,11 @@ ghost use mathlib.Core.Path.{_≡_};
 ghost use mathlib.Core.Bool.{not, _&&_};
 ghost use lib.Dec.{eqb};
 ghost use Rattle.seats.specs.Mask.{mask, rowsOf};
-ghost use Rattle.acks.specs.Acks.{acksOf, viewAt, withView, rowOf, withRow, isFilled, shares, sharers, most, margin};
+ghost use Rattle.acks.specs.Acks.{acksOf, viewAt, withView, noAcks, rowOf, withRow, isFilled, shares, sharers, most, margin};
 use entry::Entry;
 use entry::table;
 use entry::table::Entries;
+use seats::Seat;
 use seats::View;
 use seats::mask;
 use seats::sizes;
@@ -49,9 +50,21 @@ pub fn row_of<'a>(entries: &'a Entries, views: &'a [u32; 64], k: usize) -> AckRo
 }
 
 impl Acks {
-    pub fn with_row(mut self, k: usize, row: AckRow) -> Acks
-        ensures { λ r. ⌜ r ≡ withRow self k row ⌝ }
+    // Every row empty.
+    pub fn none() -> Acks
+        ensures { λ r. ⌜ r ≡ noAcks ⌝ }
     {
+        Acks {
+            entries: table::no_entries(),
+            views: [0; 64],
+        }
+    }
+
+    // The table with a seat's row written.
+    pub fn with_row(mut self, s: Seat, row: AckRow) -> Acks
+        ensures { λ r. ⌜ r ≡ withRow self (s .0) row ⌝ }
+    {
+        let k = s.0 as usize;
         table::put_entry(&mut self.entries, k, row.entry);
         put_view(&mut self.views, k, row.view.0);
         self

@@ -1,11 +1,12 @@
--- Of a list whose numbers rise, `first` is the lowest that applies, and 0 only where none does.
+-- Of a list whose numbers rise, `first` is the lowest that applies, and 0 only where none does. Lists can be joined.
 use Prim.Native.Nat.{ℕ, _≤_, _<_}
 use mathlib.Core.Bool.{Bool, true, false, _&&_, cond}
-use mathlib.Core.List.{[], _∷_}
+use mathlib.Core.List.{[], _∷_, _++_}
 use mathlib.Core.Logic.{_⊎_, inl, inr}
-use mathlib.Core.Path.{_≡_, refl, sym, _∙_}
+use mathlib.Core.Path.{_≡_, refl, sym, ap, _∙_}
 use native.Mathlib.Omega.{arith}
-use lib.Dec.{T, ltb, ltb→lt}
+use lib.Dec.{T, eqb, ltb, ltb→lt}
+use borrow.Author.Tests.{ne-eqb}
 use Rattle.base.specs.Refusal.{Refusals, first}
 use Rattle.base.specs.Tests.{and-l, and-r, is-true, true-is, true≢false}
 
@@ -44,3 +45,16 @@ first-lowest j (r ∷ rs) t k a = go (r .1) refl a (λ h. first-lowest (r .0) rs
 -- "0 means taken."
 pub first-none : (j : ℕ) (rs : Refusals) → T (rising j rs) → first rs ≡ 0 → (k : ℕ) → Applies k rs → ⊥
 first-none j rs t e k a = omega (arith, above j rs t (first rs) (first-lowest j rs t k a .1))
+
+-- A second list is looked at where the first has nothing to say.
+pub first-behind : (j : ℕ) (rs ss : Refusals) → T (rising j rs) → first (rs ++ ss) ≡ cond (eqb (first rs) 0) (first ss) (first rs)
+first-behind j [] ss t = refl
+first-behind j (r ∷ rs) ss t = go (r .1) (first-behind (r .0) rs ss (and-r (ltb j (r .0)) (rising (r .0) rs) t))
+  where
+    some : r .0 ≡ 0 → ⊥
+    some e = omega (arith, ltb→lt j (r .0) (and-l (ltb j (r .0)) (rising (r .0) rs) t))
+
+    go : (b : Bool) → first (rs ++ ss) ≡ cond (eqb (first rs) 0) (first ss) (first rs)
+        → cond b (r .0) (first (rs ++ ss)) ≡ cond (eqb (cond b (r .0) (first rs)) 0) (first ss) (cond b (r .0) (first rs))
+    go true rec = sym (ap (λ c. cond c (first ss) (r .0)) (ne-eqb (r .0) 0 some))
+    go false rec = rec

@@ -63,3 +63,23 @@ pub same-test : (a b : Bool) → (a ≡ true → b ≡ true) → (b ≡ true →
 same-test true b h k = sym (h refl)
 same-test false true h k = k refl
 same-test false false h k = refl
+
+pub and-assoc : (a b c : Bool) → (a && (b && c)) ≡ ((a && b) && c)
+and-assoc true b c = refl
+and-assoc false b c = refl
+
+pub or-assoc : (a b c : Bool) → (a || (b || c)) ≡ ((a || b) || c)
+or-assoc true b c = refl
+or-assoc false b c = refl
+
+pub and-alone : (a : Bool) → (a && true) ≡ a
+and-alone true = refl
+and-alone false = refl
+
+pub or-alone : (a : Bool) → (a || false) ≡ a
+or-alone true = refl
+or-alone false = refl
+
+pub or-r : (a b : Bool) → b ≡ true → (a || b) ≡ true
+or-r true b h = refl
+or-r false b h = h

@@ -1,5 +1,5 @@
 -- Entries compared, and that bytes tell an entry: over any Entry, with no side condition.
-use Prim.Native.Nat.{ℕ, _<_}
+use Prim.Native.Nat.{ℕ, _^_, _<_}
 use mathlib.Core.Path.{_≡_, refl, sym, ap, ap₂, _∙_, subst}
 use mathlib.Core.Bool.{Bool, true, false, not, _&&_, _||_}
 use mathlib.Core.List.{List, [], _∷_, _++_}
@@ -8,11 +8,11 @@ use native.Mathlib.Omega.{arith}
 use lib.Dec.{T, eqb, ltb, eqb→eq, ltb→lt, not-T, T-not}
 use lib.ListN.{length, take, drop, replicate, length-take, length-drop, take-append-drop}
 use borrow.Author.Tests.{eqb-true, eq-eqb, ltb-true, lt-ltb, le-ltb}
-use Rattle.base.specs.Tests.{and-l, and-r, and-i, and-true, is-true, true-is, same-test}
+use Rattle.base.specs.Tests.{and-l, and-r, and-i, and-true, and-alone, is-true, true-is, same-test}
 use Rattle.entry.specs.declared.Entry.{Entry}
-use Rattle.entry.specs.Entry.{all, wordBytes, bytesOf, wellFormed, same, less, ofWords, entryOf}
-use Rattle.entry.specs.Flags.{and-alone, last-step}
-use Rattle.entry.specs.Words.{below, equal-word, below-word, word-back, isByte, word-made}
+use Rattle.entry.specs.Entry.{all, wordBytes, bytesOf, serialOf, serial, wellFormed, same, less, ofWords, entryOf}
+use Rattle.entry.specs.Flags.{last-step}
+use Rattle.entry.specs.Words.{below, equal-word, below-word, word-back, isByte, all-join, word-below, word-made}
 
 -- How the code compares: word by word.
 pub same-words : (a b : Entry) → same a b ≡ (eqb (a .hi) (b .hi) && eqb (a .lo) (b .lo))
@@ -94,6 +94,18 @@ less-total a b h k =
     ap₂ ofWords high low
 
 -- From words to bytes and back.
+-- "An entry is 16 bytes."
+pub bytes-sixteen : (e : Entry) → length (bytesOf e) ≡ 16
+bytes-sixteen e = refl
+
+pub bytes-below : (e : Entry) → e .hi < 2 ^ 64 → e .lo < 2 ^ 64 → T (all isByte (bytesOf e))
+bytes-below e h l = all-join (wordBytes (e .hi)) (wordBytes (e .lo)) (word-below (e .hi) h) (word-below (e .lo) l)
+
+-- "any bytes": the code has no part in whether an entry is well formed.
+pub any-code : (a b : Entry) → serialOf a ≡ serialOf b → wellFormed a ≡ wellFormed b
+unfolding wellFormed
+any-code a b e = ap serial e
+
 pub bytes-back : (e : Entry) → entryOf (bytesOf e) ≡ e
 unfolding entryOf
 bytes-back e = ap₂ ofWords (word-back (e .hi)) (word-back (e .lo))

@@ -1,7 +1,7 @@
 pub mod Entry
 pub mod Flags
 pub mod Laws
-pub mod Scan
+pub mod Follows
 pub mod Serial
 pub mod Table
 pub mod TableLaws

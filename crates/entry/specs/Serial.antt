@@ -6,7 +6,7 @@ use mathlib.Core.List.{List, [], _∷_}
 use native.Mathlib.Omega.{arith}
 use lib.ListN.{length, take, drop}
 use Rattle.base.specs.Tests.{and-true}
-use Rattle.entry.specs.Flags.{or-r}
+use Rattle.base.specs.Tests.{or-r}
 use Rattle.entry.specs.Entry.{all, visible, blank, serial}
 
 -- Where the visible stretch ends.

@@ -4,12 +4,12 @@ use mathlib.Core.Path.{_≡_, refl, sym, ap, ap₂, _∙_}
 use mathlib.Core.Bool.{Bool, true, false, _&&_, _||_}
 use mathlib.Core.List.{List, [], _∷_, _++_}
 use native.Mathlib.Omega.{arith}
-use native.Mathlib.Nat.{pow-suc, div-one, div-div-eq-div-mul}
-use lib.Dec.{T, eqb, ltb, ltb→lt}
+use native.Mathlib.Nat.{pow-suc, div-one, div-div-eq-div-mul, div-lt-iff-lt-mul, mod-lt}
+use lib.Dec.{T, eqb, ltb, ltb→lt, lt→ltb, lit<}
 use borrow.Author.Tests.{eqb-true, eq-eqb, eqb-false, ltb-true, ltb-false, lt-ltb, le-ltb}
 use lib.ListN.{length}
-use Rattle.base.specs.Tests.{and-l, and-r, and-true, same-test}
-use Rattle.entry.specs.Flags.{and-assoc, two-steps}
+use Rattle.base.specs.Tests.{and-l, and-r, and-i, and-true, and-assoc, same-test}
+use Rattle.entry.specs.Flags.{two-steps}
 use Rattle.entry.specs.Entry.{all, lowBytes, wordBytes, wordOf, sameBytes, lessBytes}
 
 -- What stands above k + 1 bytes stands above one byte of what stands above k.
@@ -95,6 +95,18 @@ word-back w =
 -- Below 256: what a byte is.
 abbrev pub isByte : ℕ → Bool
 isByte x = ltb x 256
+
+pub all-join : (xs ys : List ℕ) → T (all isByte xs) → T (all isByte ys) → T (all isByte (xs ++ ys))
+all-join [] ys h k = k
+all-join (x ∷ xs) ys h k = and-i (isByte x) (all isByte (xs ++ ys)) (and-l (isByte x) (all isByte xs) h) (all-join xs ys (and-r (isByte x) (all isByte xs) h) k)
+
+low-below : (k w : ℕ) → T (all isByte (lowBytes k w))
+low-below zero w = tt
+low-below (suc k) w = and-i (isByte (w / 256 ^ k % 256)) (all isByte (lowBytes k w)) (lt→ltb (w / 256 ^ k % 256) 256 (mod-lt (w / 256 ^ k) (lit< tt))) (low-below k w)
+
+-- The bytes of a word of 64 bits are bytes.
+pub word-below : (w : ℕ) → w < 2 ^ 64 → T (all isByte (wordBytes w))
+word-below w h = and-i (isByte (w / 256 ^ 7)) (all isByte (lowBytes 7 w)) (lt→ltb (w / 256 ^ 7) 256 (div-lt-iff-lt-mul (lit< tt) .1 h)) (low-below 7 w)
 
 -- Bytes that were read behind a word v leave v above them, and are the low bytes of what was made.
 read-back : (xs : List ℕ) (v : ℕ) → T (all isByte xs) → (wordOf v xs / 256 ^ length xs ≡ v) × (lowBytes (length xs) (wordOf v xs) ≡ xs)

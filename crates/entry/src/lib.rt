@@ -1,7 +1,7 @@
 // The 16-byte entry, held as two big-endian words.
 ghost use mathlib.Core.Path.{_≡_};
 ghost use Rattle.entry.specs.Entry.{zeroEntry, bytesOf, same, less, wellFormed};
-ghost use Rattle.entry.specs.Scan.{follows};
+ghost use Rattle.entry.specs.Follows.{follows};
 
 pub mod table; // table.rt: one entry a seat
 

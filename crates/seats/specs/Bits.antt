@@ -1,5 +1,5 @@
 -- Laws of one mask: its bits, and the machine's count of ones as the number of distinct seats.
-use mathlib.Core.Path.{_≡_, refl, sym, ap, ap₂, _∙_}
+use mathlib.Core.Path.{_≡_, refl, sym, ap, ap₂, _∙_, fun-ext}
 use mathlib.Core.Bool.{Bool, true, false, not, _&&_, _||_, cond}
 use Prim.Native.Nat.{ℕ, zero, suc, _+_, _/_, _%_, _^_, _≤_, _<_}
 use native.Mathlib.Omega.{arith}
@@ -11,6 +11,7 @@ use lib.Pow.{shr-lt, pow-mono}
 use lib.Arith.{lt-one}
 use lib.Bits.{bitAnd, bitOr, bitXor, and-shr, and-mod, or-shr, or-mod, xor-shr, xor-mod}
 use borrow.Author.Tests.{lt-ltb, le-ltb}
+use Rattle.base.specs.Tests.{and-alone}
 use Rattle.seats.specs.Seats.{b2n, count}
 use Rattle.seats.specs.Count.{count-ext, count-first}
 use Rattle.seats.specs.Mask.{bit, seatsIn, withSeat, without, putSeat}
@@ -140,3 +141,8 @@ put-at m k false j h =
     go true false = refl
     go false true = refl
     go false false = refl
+
+pub put-past : (m k : ℕ) (on : Bool) → 64 ≤ k → bit (putSeat m k on) ≡ bit m
+unfolding putSeat
+put-past m k true h = ap bit (with-past m k h)
+put-past m k false h = fun-ext (λ j. without-at m (withSeat 0 k) j ∙ ap (λ x. bit m j && not (bit x j)) (with-past 0 k h) ∙ ap (λ x. bit m j && not x) (bit-zero j) ∙ and-alone (bit m j))

@@ -1,16 +1,18 @@
 -- Laws of n and f: the largest f is what its name says, and what setup's numbers tell.
 use Prim.Native.Nat.{ℕ, zero, suc, _+_, _-_, _/_, _%_, _≤_, _<_}
 use mathlib.Core.Bool.{Bool, true, false, not, _||_, cond}
+use mathlib.Core.List.{[], _∷_}
 use mathlib.Core.Path.{_≡_, refl, sym, ap, _∙_, subst}
 use native.Mathlib.Omega.{arith}
 use native.Mathlib.Decide.{ℕ-discrete}
 use native.Mathlib.Nat.{mod-lt}
 use lib.Dec.{T, eqb, leb, ltb, leb→le, le→leb}
-use borrow.Author.Tests.{leb-true, ltb-false, eqb-false, le-leb, le-ltb, ne-eqb}
+use borrow.Author.Tests.{eqb-true, leb-false, leb-true, ltb-false, eqb-false, le-leb, le-ltb, ne-eqb}
+use Rattle.base.specs.RefusalLaws.{first-behind}
 use Rattle.base.specs.Tests.{is-true, true-is, true≢false, and-true, or-false}
 use Rattle.seats.specs.declared.Seat.{Seat}
 use Rattle.seats.specs.Seats.{leader}
-use Rattle.seats.specs.Sizes.{sizeAllowed, fewest, bears, largest, mostFaulty, sizeNumber, seatNumber}
+use Rattle.seats.specs.Sizes.{sizeAllowed, fewest, sizeRefusals, bears, largest, mostFaulty, sizeNumber, seatNumber}
 
 largest-passes : (p : ℕ → Bool) (b : ℕ) → T (p 0) → T (p (largest p b))
 largest-passes p zero z = z
@@ -82,11 +84,15 @@ sizes-take n f a =
     simp (le-leb 4 n (a .least), le-leb n 64 (a .most), ne-eqb f 0 (λ e. omega (arith, a .some)), le-ltb (mostFaulty n) f (most-largest n f (a .least) (a .most) (a .fits)))
 
 -- Setup's third number is looked at behind the first two.
-pub seat-after-sizes : (n f : ℕ) (s : Seat) → cond (eqb (sizeNumber n f) 0) (cond (leb n (s .0)) 3 0) (sizeNumber n f) ≡ seatNumber n f s
+pub seat-after-sizes : (n f : ℕ) (s : Seat) → seatNumber n f s ≡ cond (eqb (sizeNumber n f) 0) (cond (leb n (s .0)) 3 0) (sizeNumber n f)
 unfolding sizeNumber seatNumber
-seat-after-sizes n f s = go (not (sizeAllowed n)) (eqb f 0 || ltb (mostFaulty n) f)
+seat-after-sizes n f s = first-behind 0 (sizeRefusals n f) ((3, leb n (s .0)) ∷ []) tt
+
+-- A seat that setup takes is below n.
+pub seat-taken : (n f : ℕ) (s : Seat) → seatNumber n f s ≡ 0 → Allowed n f × (s .0 < n)
+seat-taken n f s e = go (eqb (sizeNumber n f) 0) refl (leb n (s .0)) refl (sym (seat-after-sizes n f s) ∙ e)
   where
-    go : (a b : Bool) → _≡_ {A = ℕ} (cond (eqb (cond a 1 (cond b 2 0)) 0) (cond (leb n (s .0)) 3 0) (cond a 1 (cond b 2 0))) (cond a 1 (cond b 2 (cond (leb n (s .0)) 3 0)))
-    go true b = refl
-    go false true = refl
-    go false false = refl
+    go : (a : Bool) → eqb (sizeNumber n f) 0 ≡ a → (b : Bool) → leb n (s .0) ≡ b → cond a (cond b 3 0) (sizeNumber n f) ≡ 0 → Allowed n f × (s .0 < n)
+    go true p true q z = absurd (omega arith)
+    go true p false q z = (sizes-taken n f (eqb-true _ _ p), leb-false n (s .0) q)
+    go false p b q z = absurd (eqb-false _ _ p z)

@@ -28,14 +28,14 @@ unique-quorum n f = one-answer (quorum n f)
 pub unique-has : (m k : ℕ) → OneAnswer (λ r. r ≡ bit m k)
 unique-has m k = one-answer (bit m k)
 
-pub unique-with-seat : (m k : ℕ) → OneAnswer (λ r. r ≡ withSeat m k)
-unique-with-seat m k = one-answer (withSeat m k)
+pub unique-with-seat : (m : ℕ) (s : Seat) → OneAnswer (λ r. r ≡ withSeat m (s .0))
+unique-with-seat m s = one-answer (withSeat m (s .0))
 
 pub unique-without : (a b : ℕ) → OneAnswer (λ r. r ≡ without a b)
 unique-without a b = one-answer (without a b)
 
-pub unique-put : (m k : ℕ) (on : Bool) → OneAnswer (λ r. r ≡ putSeat m k on)
-unique-put m k on = one-answer (putSeat m k on)
+pub unique-put : (m : ℕ) (s : Seat) (on : Bool) → OneAnswer (λ r. r ≡ putSeat m (s .0) on)
+unique-put m s on = one-answer (putSeat m (s .0) on)
 
 pub unique-seats-in : (m : ℕ) → OneAnswer (λ r. r ≡ seatsIn m)
 unique-seats-in m = one-answer (seatsIn m)

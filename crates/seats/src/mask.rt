@@ -2,18 +2,20 @@
 ghost use mathlib.Core.Path.{_≡_};
 ghost use mathlib.Core.Bool.{true};
 ghost use Rattle.seats.specs.Mask.{bit, within, seatsIn, withSeat, without, putSeat, rowsOf, mask};
+use crate::Seat;
 
-// Is seat k in the mask.
+// Is seat k in the mask. A loop over seats has k as its index.
 pub fn has(m: u64, k: usize) -> bool
     ensures { λ r. ⌜ r ≡ bit m k ⌝ }
 {
     if k < 64 { (m >> k) % 2 == 1 } else { false }
 }
 
-// The mask with seat k in it.
-pub fn with_seat(m: u64, k: usize) -> u64
-    ensures { λ r. ⌜ r ≡ withSeat m k ⌝ }
+// The mask with a seat in it.
+pub fn with_seat(m: u64, s: Seat) -> u64
+    ensures { λ r. ⌜ r ≡ withSeat m (s .0) ⌝ }
 {
+    let k = s.0;
     if k < 64 { m | (1u64 << k) } else { m }
 }
 
@@ -24,14 +26,14 @@ pub fn without(a: u64, b: u64) -> u64
     (a | b) ^ b
 }
 
-// The mask with seat k in it or not.
-pub fn put(m: u64, k: usize, on: bool) -> u64
-    ensures { λ r. ⌜ r ≡ putSeat m k on ⌝ }
+// The mask with a seat in it or not.
+pub fn put(m: u64, s: Seat, on: bool) -> u64
+    ensures { λ r. ⌜ r ≡ putSeat m (s .0) on ⌝ }
 {
     if on {
-        with_seat(m, k)
+        with_seat(m, s)
     } else {
-        without(m, with_seat(0, k))
+        without(m, with_seat(0, s))
     }
 }
 

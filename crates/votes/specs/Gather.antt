@@ -1,5 +1,5 @@
 -- Rows gathered one after the other choose as the list of them does.
-use Prim.Native.Nat.{ℕ, suc, _+_, _≤_, _<_}
+use Prim.Native.Nat.{ℕ, _+_, _≤_, _<_}
 use mathlib.Core.Bool.{Bool, true, false, not, _&&_, _||_, cond}
 use mathlib.Core.List.{List, [], _∷_}
 use mathlib.Core.Path.{_≡_, refl, sym, ap, ap₂, _∙_, subst}
@@ -7,8 +7,8 @@ use native.Mathlib.Omega.{arith}
 use native.Mathlib.Decide.{ℕ-discrete}
 use lib.Dec.{T, eqb, leb, ltb, leb→le, ltb→lt}
 use lib.ListN.{length}
-use borrow.Author.Tests.{eqb-true, eqb-false, eq-eqb, ne-eqb, ltb-false, lt-ltb}
-use Rattle.base.specs.Tests.{and-l, and-r, true-is, true≢false, same-test, or-false}
+use borrow.Author.Tests.{eqb-true, eqb-false, eq-eqb, ne-eqb, le-ltb}
+use Rattle.base.specs.Tests.{and-l, and-r, is-true, true-is, true≢false, same-test, or-false, or-r, or-alone, or-assoc}
 use Rattle.seats.specs.declared.View.{View}
 use Rattle.seats.specs.Mask.{bit}
 use Rattle.seats.specs.Bits.{bit-zero}
@@ -17,7 +17,7 @@ use Rattle.votes.specs.declared.Rows.{Rows}
 use Rattle.votes.specs.declared.Selected.{Selected}
 use Rattle.votes.specs.Selection.{selection}
 use Rattle.votes.specs.SelectionExt.{SameVote, selection-ext}
-use Rattle.votes.specs.Rows.{voteAt, withVote, hasSeat, voteOf, follower, rising, sound, allSound, broken, answered, callNumber, rowsNumber, selected, noRows, oneMore, added, gathered, selectedFrom}
+use Rattle.votes.specs.Rows.{voteAt, withVote, hasSeat, voteOf, follower, rising, sound, allSound, broken, answered, callNumber, rowsNumber, selected, noRows, added, gathered, selectedFrom}
 use Rattle.votes.specs.RowLaws.{call-taken, rows-refused, rows-taken}
 use Rattle.votes.specs.TableLaws.{Sized, none-sized, with-sized, filled-at, vote-same, vote-other}
 
@@ -43,27 +43,11 @@ regroup false false s r a = refl
 gathered-broken : (t : Rows) (rs : List Row)
     → gathered t rs .broken ≡ (t .broken || (not (rising (t .n) (t .next) rs) || not (allSound (t .n) (t .f) (t .view) rs)))
 unfolding added
-gathered-broken t [] = alone (t .broken)
-  where
-    alone : (b : Bool) → b ≡ (b || false)
-    alone true = refl
-    alone false = refl
+gathered-broken t [] = sym (or-alone (t .broken))
 gathered-broken t (r ∷ rs) =
     gathered-broken (added t r) rs
     ∙ regroup (t .broken) (leb (t .next) (r .seat .0) && ltb (r .seat .0) (t .n)) (sound (t .n) (t .f) (t .view) r) (rising (t .n) (follower r) rs)
     (allSound (t .n) (t .f) (t .view) rs)
-
--- ---- they are counted as far as n needs
-gathered-count : (t : Rows) (rs : List Row) (n : ℕ) → n ≤ 64 → ltb n (gathered t rs .count) ≡ ltb n (t .count + length rs)
-unfolding added
-gathered-count t [] n h = ap (ltb n) (let z : t .count ≡ t .count + 0 = omega arith in z)
-gathered-count t (r ∷ rs) n h = gathered-count (added t r) rs n h ∙ go (ltb (t .count) 65) refl
-  where
-    go : (b : Bool) → ltb (t .count) 65 ≡ b → ltb n (oneMore (t .count) + length rs) ≡ ltb n (t .count + suc (length rs))
-    go true e = ap (λ c. ltb n (cond c (t .count + 1) (t .count) + length rs)) e ∙ ap (ltb n) (let z : t .count + 1 + length rs ≡ t .count + suc (length rs) = omega arith in z)
-    go false e =
-        let past = ltb-false (t .count) 65 e in
-        ap (λ c. ltb n (cond c (t .count + 1) (t .count) + length rs)) e ∙ lt-ltb n (t .count + length rs) (omega arith) ∙ sym (lt-ltb n (t .count + suc (length rs)) (omega arith))
 
 -- ---- seats that rise: each has one row
 rising-above : (n s : ℕ) (rs : List Row) (k : ℕ) → T (rising n s rs) → k < s → hasSeat rs k ≡ false
@@ -72,6 +56,25 @@ rising-above n s (r ∷ rs) k t h =
     let here = and-l (leb s (r .seat .0) && ltb (r .seat .0) n) (rising n (follower r) rs) t in
     let low = leb→le s (r .seat .0) (and-l (leb s (r .seat .0)) (ltb (r .seat .0) n) here) in
     ap₂ _||_ (ne-eqb (r .seat .0) k (λ e. omega arith)) (rising-above n (follower r) rs k (and-r (leb s (r .seat .0) && ltb (r .seat .0) n) _ t) (omega arith))
+
+-- Seats that rise below n are no more than n.
+rising-length : (n s : ℕ) (rs : List Row) → T (rising n s rs) → s ≤ n → s + length rs ≤ n
+rising-length n s [] t h = omega arith
+rising-length n s (r ∷ rs) t h =
+    let here = and-l (leb s (r .seat .0) && ltb (r .seat .0) n) (rising n (follower r) rs) t in
+    let low = leb→le s (r .seat .0) (and-l (leb s (r .seat .0)) (ltb (r .seat .0) n) here) in
+    let below = ltb→lt (r .seat .0) n (and-r (leb s (r .seat .0)) (ltb (r .seat .0) n) here) in
+    omega (arith, rising-length n (follower r) rs (and-r (leb s (r .seat .0) && ltb (r .seat .0) n) _ t) (omega arith))
+
+-- So "more than n" adds nothing to 15's other conditions.
+broken-is : (n f : ℕ) (v : View) (rows : List Row) → broken n f v rows ≡ (not (rising n 0 rows) || not (allSound n f v rows))
+broken-is n f v rows = go (rising n 0 rows) refl
+  where
+    go : (b : Bool) → rising n 0 rows ≡ b → broken n f v rows ≡ (not (rising n 0 rows) || not (allSound n f v rows))
+    go true e = ap (λ x. x || (not (rising n 0 rows) || not (allSound n f v rows))) (le-ltb n (length rows) (omega (arith, rising-length n 0 rows (is-true _ e) (omega arith))))
+    go false e =
+        let yes : (not (rising n 0 rows) || not (allSound n f v rows)) ≡ true = ap (λ b. not b || not (allSound n f v rows)) e in
+        or-r (ltb n (length rows)) _ yes ∙ sym yes
 
 module _ (n : ℕ) (small : n ≤ 64) where
   head-low : (s : ℕ) (r : Row) (rs : List Row) → T (rising n s (r ∷ rs)) → r .seat .0 < 64
@@ -85,20 +88,12 @@ module _ (n : ℕ) (small : n ≤ 64) where
 
   gathered-filled : (t : Rows) (rs : List Row) (k : ℕ) → T (rising n (t .next) rs) → bit (gathered t rs .table .filled) k ≡ (bit (t .table .filled) k || hasSeat rs k)
   unfolding added
-  gathered-filled t [] k h = alone (bit (t .table .filled) k)
-    where
-      alone : (b : Bool) → b ≡ (b || false)
-      alone true = refl
-      alone false = refl
+  gathered-filled t [] k h = sym (or-alone (bit (t .table .filled) k))
   gathered-filled t (r ∷ rs) k h =
       gathered-filled (added t r) rs k (tail-rises (t .next) r rs h)
       ∙ ap (λ b. b || hasSeat rs k) (filled-at (t .table) (r .seat .0) (r .vote) k (head-low (t .next) r rs h) ∙ ap (λ b. bit (t .table .filled) k || b) (eqb-sym k (r .seat .0)))
-      ∙ assoc (bit (t .table .filled) k) (eqb (r .seat .0) k) (hasSeat rs k)
+      ∙ sym (or-assoc (bit (t .table .filled) k) (eqb (r .seat .0) k) (hasSeat rs k))
     where
-      assoc : (a b c : Bool) → ((a || b) || c) ≡ (a || (b || c))
-      assoc true b c = refl
-      assoc false b c = refl
-
       eqb-sym : (a b : ℕ) → eqb a b ≡ eqb b a
       eqb-sym a b = same-test (eqb a b) (eqb b a) (λ e. eq-eqb b a (sym (eqb-true a b e))) (λ e. eq-eqb a b (sym (eqb-true b a e)))
 
@@ -130,9 +125,9 @@ module _ (n f : ℕ) (v : View) (rows : List Row) where
   abbrev all : Rows
   all = gathered (noRows n f v) rows
 
-  breaks-alike : n ≤ 64 → (ltb n (all .count) || all .broken) ≡ broken n f v rows
+  breaks-alike : all .broken ≡ broken n f v rows
   unfolding noRows
-  breaks-alike h = ap₂ _||_ (gathered-count (noRows n f v) rows n h ∙ ap (ltb n) (let z : 0 + length rows ≡ length rows = omega arith in z)) (gathered-broken (noRows n f v) rows)
+  breaks-alike = gathered-broken (noRows n f v) rows ∙ sym (broken-is n f v rows)
 
   choose-alike : n ≤ 64 → broken n f v rows ≡ false → selection n f (bit (all .table .filled)) (voteAt (all .table .votes)) ≡ selection n f (hasSeat rows) (voteOf rows)
   unfolding noRows
@@ -164,23 +159,19 @@ answered-alike a b s t e h = ap (λ x. answered x s) e ∙ go (eqb b 0) refl
 
 -- The call is the one that the gathering began with.
 as-called : (n f : ℕ) (v : View) (t : Rows) → SameCall t (noRows n f v)
-    → selectedFrom t ≡ answered (rowsNumber n f v (ltb n (t .count) || t .broken)) (Selected.Chosen (selection n f (bit (t .table .filled)) (voteAt (t .table .votes))))
+    → selectedFrom t ≡ answered (rowsNumber n f v (t .broken)) (Selected.Chosen (selection n f (bit (t .table .filled)) (voteAt (t .table .votes))))
 unfolding selectedFrom noRows
 as-called n f v t c = ap (λ a. answer a (t .f) (t .view)) (c .n) ∙ ap (λ b. answer n b (t .view)) (c .f) ∙ ap (answer n f) (c .view)
   where
     answer : ℕ → ℕ → View → Selected
-    answer a b d = answered (rowsNumber a b d (ltb a (t .count) || t .broken)) (Selected.Chosen (selection a b (bit (t .table .filled)) (voteAt (t .table .votes))))
+    answer a b d = answered (rowsNumber a b d (t .broken)) (Selected.Chosen (selection a b (bit (t .table .filled)) (voteAt (t .table .votes))))
 
 pub gathered-selected : (n f : ℕ) (v : View) (rows : List Row) → selectedFrom (gathered (noRows n f v) rows) ≡ selected n f v rows
 unfolding selected
 gathered-selected n f v rows =
     as-called n f v (all n f v rows) (gathered-call (noRows n f v) rows)
-    ∙ answered-alike _ (rowsNumber n f v (broken n f v rows)) _ _ (numbers (ℕ-discrete (callNumber n f v) 0)) (λ z. chosen (ℕ-discrete (callNumber n f v) 0) (broken n f v rows) refl z)
+    ∙ answered-alike _ (rowsNumber n f v (broken n f v rows)) _ _ (ap (rowsNumber n f v) (breaks-alike n f v rows)) (λ z. chosen (ℕ-discrete (callNumber n f v) 0) (broken n f v rows) refl z)
   where
-    numbers : Dec (callNumber n f v ≡ 0) → rowsNumber n f v (ltb n (all n f v rows .count) || all n f v rows .broken) ≡ rowsNumber n f v (broken n f v rows)
-    numbers (yes z) = ap (rowsNumber n f v) (breaks-alike n f v rows (call-taken n f v z .0 .most))
-    numbers (no z) = rows-refused n f v (ltb n (all n f v rows .count) || all n f v rows .broken) z ∙ sym (rows-refused n f v (broken n f v rows) z)
-
     chosen : Dec (callNumber n f v ≡ 0) → (b : Bool) → broken n f v rows ≡ b → rowsNumber n f v b ≡ 0
         → Selected.Chosen (selection n f (bit (all n f v rows .table .filled)) (voteAt (all n f v rows .table .votes))) ≡ Selected.Chosen (selection n f (hasSeat rows) (voteOf rows))
     chosen (no z) b e q = absurd (z (sym (rows-refused n f v b z) ∙ q))

@@ -1,48 +1,36 @@
 -- Laws of the rows of votes.
 use Prim.Native.Nat.{ℕ}
-use mathlib.Core.Bool.{Bool, true, false, not, _||_, cond}
-use mathlib.Core.Path.{_≡_, refl, sym, ap, ap₂, _∙_}
+use mathlib.Core.Bool.{Bool, true, false, cond}
+use mathlib.Core.List.{[], _∷_}
+use mathlib.Core.Path.{_≡_, refl, sym, ap, _∙_}
 use native.Mathlib.Omega.{arith}
-use lib.Dec.{eqb, ltb}
+use lib.Dec.{eqb}
 use borrow.Author.Tests.{eqb-true, eqb-false, eq-eqb, ne-eqb}
+use Rattle.base.specs.RefusalLaws.{first-behind}
 use Rattle.seats.specs.declared.View.{View}
-use Rattle.seats.specs.Sizes.{sizeAllowed, mostFaulty, sizeNumber}
+use Rattle.seats.specs.Sizes.{sizeRefusals, sizeNumber}
 use Rattle.seats.specs.SizeLaws.{Allowed, sizes-taken}
 use Rattle.votes.specs.declared.Selected.{Selected}
 use Rattle.votes.specs.declared.Choice.{Choice}
-use Rattle.votes.specs.Rows.{callNumber, rowsNumber, answered, numberOf}
+use Rattle.votes.specs.Rows.{callRefusals, callNumber, rowsNumber, answered, numberOf}
 
 -- 5 is looked at behind 1 and 2.
-pub call-after-sizes : (n f : ℕ) (v : View) → cond (eqb (sizeNumber n f) 0) (cond (eqb (v .0) 0) 5 0) (sizeNumber n f) ≡ callNumber n f v
+pub call-after-sizes : (n f : ℕ) (v : View) → callNumber n f v ≡ cond (eqb (sizeNumber n f) 0) (cond (eqb (v .0) 0) 5 0) (sizeNumber n f)
 unfolding sizeNumber
-call-after-sizes n f v = go (not (sizeAllowed n)) (eqb f 0 || ltb (mostFaulty n) f)
-  where
-    go : (a b : Bool) → _≡_ {A = ℕ} (cond (eqb (cond a 1 (cond b 2 0)) 0) (cond (eqb (v .0) 0) 5 0) (cond a 1 (cond b 2 0))) (cond a 1 (cond b 2 (cond (eqb (v .0) 0) 5 0)))
-    go true b = refl
-    go false true = refl
-    go false false = refl
+call-after-sizes n f v = first-behind 0 (sizeRefusals n f) ((5, eqb (v .0) 0) ∷ []) tt
 
 -- A call that is not refused has n and f as setup takes them, and a view.
 pub call-taken : (n f : ℕ) (v : View) → callNumber n f v ≡ 0 → Allowed n f × (v .0 ≡ 0 → ⊥)
-unfolding sizeNumber
-call-taken n f v e = go (not (sizeAllowed n)) (eqb f 0 || ltb (mostFaulty n) f) (eqb (v .0) 0) refl refl refl e
+call-taken n f v e = go (eqb (sizeNumber n f) 0) refl (eqb (v .0) 0) refl (sym (call-after-sizes n f v) ∙ e)
   where
-    go : (a b d : Bool) → not (sizeAllowed n) ≡ a → (eqb f 0 || ltb (mostFaulty n) f) ≡ b → eqb (v .0) 0 ≡ d
-        → _≡_ {A = ℕ} (cond a 1 (cond b 2 (cond d 5 0))) 0 → Allowed n f × (v .0 ≡ 0 → ⊥)
-    go true b d ea eb ed z = absurd (omega arith)
-    go false true d ea eb ed z = absurd (omega arith)
-    go false false true ea eb ed z = absurd (omega arith)
-    go false false false ea eb ed z = (sizes-taken n f (ap₂ (λ x y. cond x 1 (cond y 2 0)) ea eb), eqb-false (v .0) 0 ed)
+    go : (a : Bool) → eqb (sizeNumber n f) 0 ≡ a → (b : Bool) → eqb (v .0) 0 ≡ b → cond a (cond b 5 0) (sizeNumber n f) ≡ 0 → Allowed n f × (v .0 ≡ 0 → ⊥)
+    go true p true q z = absurd (omega arith)
+    go true p false q z = (sizes-taken n f (eqb-true _ _ p), eqb-false (v .0) 0 q)
+    go false p b q z = absurd (eqb-false _ _ p z)
 
 -- 15 is looked at behind the others.
 rows-after-call : (n f : ℕ) (v : View) (d : Bool) → rowsNumber n f v d ≡ cond (eqb (callNumber n f v) 0) (cond d 15 0) (callNumber n f v)
-rows-after-call n f v d = go (not (sizeAllowed n)) (eqb f 0 || ltb (mostFaulty n) f) (eqb (v .0) 0)
-  where
-    go : (a b c : Bool) → _≡_ {A = ℕ} (cond a 1 (cond b 2 (cond c 5 (cond d 15 0)))) (cond (eqb (cond a 1 (cond b 2 (cond c 5 0))) 0) (cond d 15 0) (cond a 1 (cond b 2 (cond c 5 0))))
-    go true b c = refl
-    go false true c = refl
-    go false false true = refl
-    go false false false = refl
+rows-after-call n f v d = first-behind 0 (callRefusals n f v) ((15, d) ∷ []) tt
 
 pub rows-refused : (n f : ℕ) (v : View) (d : Bool) → (callNumber n f v ≡ 0 → ⊥) → rowsNumber n f v d ≡ callNumber n f v
 rows-refused n f v d h = rows-after-call n f v d ∙ ap (λ b. cond b (cond d 15 0) (callNumber n f v)) (ne-eqb _ _ h)
@@ -57,7 +45,7 @@ answered-refused number s h = sym (ap (λ b. cond b s (Selected.Refused number))
 pub answered-taken : (number : ℕ) (s : Selected) → number ≡ 0 → s ≡ answered number s
 answered-taken number s h = sym (ap (λ b. cond b s (Selected.Refused number)) (eq-eqb number 0 h))
 
--- The number of an answer is the lowest that applies.
+-- The number of an answer is the one it was given for.
 pub answered-number : (number : ℕ) (c : Choice) → numberOf (answered number (Selected.Chosen c)) ≡ number
 answered-number number c = go (eqb number 0) refl
   where

@@ -51,7 +51,7 @@ callNumber n f v = first (callRefusals n f v)
 abbrev pub answered : ℕ → Selected → Selected
 answered number s = cond (eqb number 0) s (Selected.Refused number)
 
--- What an answer means: 0 and the choice, or 01's number of refusal.
+-- 01's number of an answer: "0 means taken", here that there is a choice.
 abbrev pub numberOf : Selected → ℕ
 numberOf (Selected.Refused number) = number
 numberOf (Selected.Chosen choice) = 0
@@ -75,7 +75,7 @@ withVote t k x =
 
 -- ---- as a list
 
--- The row of seat k, the first where a list names it twice.
+-- Some row is seat k's.
 abbrev pub hasSeat : List Row → ℕ → Bool
 hasSeat [] k = false
 hasSeat (r ∷ rs) k = eqb (r .seat .0) k || hasSeat rs k
@@ -83,6 +83,7 @@ hasSeat (r ∷ rs) k = eqb (r .seat .0) k || hasSeat rs k
 abbrev pub zeroVote : Vote
 zeroVote = record { entry = zeroEntry; mask = 0; view = record { 0 = 0 }; cast = false; verified = false }
 
+-- Its vote, of the first such row.
 abbrev pub voteOf : List Row → ℕ → Vote
 voteOf [] k = zeroVote
 voteOf (r ∷ rs) k = cond (eqb (r .seat .0) k) (r .vote) (voteOf rs k)
@@ -120,17 +121,12 @@ selected n f v rows = answered (rowsNumber n f v (broken n f v rows)) (Selected.
 -- ---- the same, gathered one row after the other
 
 unfoldable pub noRows : ℕ → ℕ → View → Rows
-noRows n f v = record { view = v; next = 0; count = 0; n = n; f = f; broken = false; table = noVotes }
-
--- More than 64 are 65.
-abbrev pub oneMore : ℕ → ℕ
-oneMore c = cond (ltb c 65) (c + 1) c
+noRows n f v = record { view = v; next = 0; n = n; f = f; broken = false; table = noVotes }
 
 unfoldable pub added : Rows → Row → Rows
 added t r = record {
   view = t .view;
   next = follower r;
-  count = oneMore (t .count);
   n = t .n;
   f = t .f;
   broken = t .broken || not ((leb (t .next) (r .seat .0) && ltb (r .seat .0) (t .n)) && sound (t .n) (t .f) (t .view) r);
@@ -143,5 +139,5 @@ gathered t (r ∷ rs) = gathered (added t r) rs
 
 unfoldable pub selectedFrom : Rows → Selected
 selectedFrom t =
-    answered (rowsNumber (t .n) (t .f) (t .view) (ltb (t .n) (t .count) || t .broken))
+    answered (rowsNumber (t .n) (t .f) (t .view) (t .broken))
     (Selected.Chosen (selection (t .n) (t .f) (bit (t .table .filled)) (voteAt (t .table .votes))))

@@ -3,6 +3,7 @@ use Prim.Native.Nat.{ℕ}
 use mathlib.Core.List.{List}
 use mathlib.Core.Path.{_≡_}
 use Rattle.base.specs.Unique.{OneAnswer, one-answer}
+use Rattle.seats.specs.declared.Seat.{Seat}
 use Rattle.seats.specs.declared.View.{View}
 use Rattle.votes.specs.declared.Vote.{Vote}
 use Rattle.votes.specs.declared.Row.{Row}
@@ -24,8 +25,8 @@ unique-choose t n f v = one-answer (chosen n f v t)
 pub unique-no-votes : OneAnswer (λ r. r ≡ noVotes)
 unique-no-votes = one-answer noVotes
 
-pub unique-with-vote : (t : VoteRows) (k : ℕ) (x : Vote) → OneAnswer (λ r. r ≡ withVote t k x)
-unique-with-vote t k x = one-answer (withVote t k x)
+pub unique-with-vote : (t : VoteRows) (s : Seat) (x : Vote) → OneAnswer (λ r. r ≡ withVote t (s .0) x)
+unique-with-vote t s x = one-answer (withVote t (s .0) x)
 
 pub unique-no-rows : (n f : ℕ) (v : View) → OneAnswer (λ r. r ≡ noRows n f v)
 unique-no-rows n f v = one-answer (noRows n f v)

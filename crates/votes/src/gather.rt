@@ -1,6 +1,6 @@
 // Tables of votes, and the rows of a request, gathered one after the other.
 ghost use mathlib.Core.Path.{_≡_};
-ghost use Rattle.votes.specs.Rows.{noVotes, withVote, noRows, oneMore, added, selectedFrom};
+ghost use Rattle.votes.specs.Rows.{noVotes, withVote, noRows, added, selectedFrom};
 use crate::Row;
 use crate::Rows;
 use crate::Selected;
@@ -10,10 +10,12 @@ use crate::Votes;
 use crate::steps;
 use crate::valid::valid;
 use entry::table;
+use seats::Seat;
 use seats::View;
 use seats::mask;
 
 impl VoteRows {
+    // No row filled.
     pub fn none() -> VoteRows
         ensures { λ r. ⌜ r ≡ noVotes ⌝ }
     {
@@ -29,39 +31,34 @@ impl VoteRows {
         }
     }
 
-    pub fn with_vote(mut self, k: usize, x: Vote) -> VoteRows
-        ensures { λ r. ⌜ r ≡ withVote self k x ⌝ }
+    // The table with a seat's vote filled in.
+    pub fn with_vote(mut self, s: Seat, x: Vote) -> VoteRows
+        ensures { λ r. ⌜ r ≡ withVote self (s .0) x ⌝ }
     {
+        let k = s.0 as usize;
         if 64 <= k {
             return self;
         }
         let mut t = self.votes;
-        t.cast = mask::put(t.cast, k, x.cast);
-        t.verified = mask::put(t.verified, k, x.verified);
+        t.cast = mask::put(t.cast, s, x.cast);
+        t.verified = mask::put(t.verified, s, x.verified);
         table::put_entry(&mut t.entries, k, x.entry);
         t.masks[k] = x.mask;
         t.views[k] = x.view.0;
-        self.filled = mask::with_seat(self.filled, k);
+        self.filled = mask::with_seat(self.filled, s);
         self.votes = t;
         self
     }
 }
 
-// Counted to 65 and no further, so that no number of rows overflows.
-fn one_more(c: u32) -> u32
-    ensures { λ r. ⌜ r ≡ oneMore c ⌝ }
-{
-    if c < 65 { c + 1 } else { c }
-}
-
 impl Rows {
+    // No row yet.
     pub fn none(n: u8, f: u8, v: View) -> Rows
         ensures { λ r. ⌜ r ≡ noRows n f v ⌝ }
     {
         Rows {
             view: v,
             next: 0,
-            count: 0,
             n: n,
             f: f,
             broken: false,
@@ -79,10 +76,9 @@ impl Rows {
         let rising = (self.next <= k as u32) & (k < self.n);
         let sound = row.verified & ((row.view.0 == v.0) & valid(self.n, self.f, v, x));
         let rows = self.table;
-        let table = rows.with_vote(k as usize, x);
+        let table = rows.with_vote(row.seat, x);
         self.broken = self.broken | !(rising & sound);
         self.next = (k as u32) + 1;
-        self.count = one_more(self.count);
         self.table = table;
         self
     }
@@ -96,18 +92,12 @@ impl Rows {
         if number != 0 {
             return Selected::Refused(number);
         }
-        if ((n as u32) < self.count) | self.broken {
+        if self.broken {
             return Selected::Refused(15);
         }
-        let rows = self.table;
-        let t = rows.votes;
-        Selected::Chosen(steps::five_steps(
-            mask::below(n) & rows.filled,
-            t.cast,
-            &t.entries,
-            &t.views,
-            n,
-            self.f,
-        ))
+        let table = self.table;
+        let rows = mask::below(n) & table.filled;
+        let t = table.votes;
+        Selected::Chosen(steps::five_steps(rows, t.cast, &t.entries, &t.views, n, self.f))
     }
 }

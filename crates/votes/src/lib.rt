@@ -1,6 +1,6 @@
 // Votes and the selection.
 pub mod valid; // valid.rt: when a vote is valid; 64 votes
-pub mod search; // search.rt: what the steps look for among the rows
+mod search; // search.rt: what the steps look for among the rows
 pub mod steps; // steps.rt: the five steps over the leader's table
 pub mod gather; // gather.rt: tables of votes; the selection by itself, over rows gathered one by one
 
@@ -41,18 +41,16 @@ pub struct Row {
     pub vote: Vote,
 }
 
-// Rows gathered one after the other, for n, f and the view that they are collected for.
+// Rows gathered one after the other, for n, f and the view that they are collected for. Only `none` and `add` make one.
 pub struct Rows {
-    pub view: View,
+    view: View,
     // The lowest seat that the next row may have.
-    pub next: u32,
-    // How many, 65 where there are more than 64.
-    pub count: u32,
-    pub n: u8,
-    pub f: u8,
+    next: u32,
+    n: u8,
+    f: u8,
     // A row was out of order, at or above n, not marked `+`, of another view or not valid.
-    pub broken: bool,
-    pub table: VoteRows,
+    broken: bool,
+    table: VoteRows,
 }
 
 pub enum Choice {

@@ -150,7 +150,8 @@ pub(crate) fn backing_if<'a>(c: bool, rows: u64, entries: &'a Entries, n: u8, e:
     ensures { λ r. ⌜ r ≡ cond c (seatsIn (mask (λ k. bit rows k && same (entryAt (now (entries .entry)) k) e) n)) 0 ⌝ }
 {
     if c {
-        mask::seats_in(holding(rows, entries, n, e))
+        let group = holding(rows, entries, n, e);
+        mask::seats_in(group)
     } else {
         0
     }

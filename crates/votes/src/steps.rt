@@ -42,7 +42,7 @@ pub(crate) fn five_steps<'a>(
         return Choice::Forced(table::entry_at(entries, i));
     }
     let q = seats::leader(View(w), n);
-    let liar = mask::with_seat(0, q.0 as usize);
+    let liar = mask::with_seat(0, q);
     let others = mask::without(rows, liar);
     if mask::seats_in(others) < quorum {
         return Choice::Wait;
@@ -77,7 +77,8 @@ pub fn choose_among<'a>(
         return Selected::Refused(number);
     }
     // Filled rows are counted before they are checked: most calls end there.
-    if mask::seats_in(mask::below(n) & filled) < sizes::quorum(n, f) {
+    let inside = mask::below(n) & filled;
+    if mask::seats_in(inside) < sizes::quorum(n, f) {
         return Selected::Chosen(Choice::Wait);
     }
     let rows = search::present(filled, cast, verified, entries, masks, views, n, f, v);

@@ -7,7 +7,7 @@ use mathlib.Core.List.{List}
 use lib.Dec.{lit≤}
 use lib.ListN.{length, take, drop}
 use Rattle.entry.specs.Entry.{serialLength, serial, wellFormed}
-use Rattle.entry.specs.Scan.{scan, scan-serial, scan-more, scan-end}
+use Rattle.entry.proofs.Scan.{scan, scan-serial, scan-more, scan-end}
 use Rattle.entry.proofs.well_formed.Statement.{statement}
 use Rattle.entry.proofs.well_formed.Tie as tie
 

@@ -9,9 +9,6 @@ cast-rising c = search needs
 valid-requires : tie.Need-valid-requires
 valid-requires c κs = search needs
 
-cast-with-vote : tie.Need-cast-with-vote
-cast-with-vote c = search needs
-
 with-vote-requires : tie.Need-with-vote-requires
 with-vote-requires c κs = search needs
 
@@ -21,22 +18,10 @@ cast-self c = search needs
 add-self : tie.Need-add-self
 add-self c = search needs
 
-one-more-requires : tie.Need-one-more-requires
-one-more-requires c κs = search needs
-
 returns : tie.Need-returns
 unfolding added sound
-returns c = simp (c .one-more .ensures, c .before .before .with-vote .ensures, c .before .before .before .before .before .valid .ensures)
+returns c = simp (c .before .with-vote .ensures, c .before .before .before .before .valid .ensures)
 
 pub add-spec : {M : Type 1} → statement M
 add-spec =
-    tie.close
-    (tie.spec
-    cast-rising
-    valid-requires
-    cast-with-vote
-    with-vote-requires
-    cast-self
-    add-self
-    one-more-requires
-    returns)
+    tie.close (tie.spec cast-rising valid-requires with-vote-requires cast-self add-self returns)

@@ -4,6 +4,9 @@ use borrow.Author.Needs.{needs}
 use Rattle.votes.proofs.VoteRows.with_vote.Statement.{statement}
 use Rattle.votes.proofs.VoteRows.with_vote.Tie as tie
 
+cast-k : tie.Need-cast-k
+cast-k c = search needs
+
 returns : tie.Need-returns
 unfolding withVote
 returns c = simp (le-ltb _ _ (c .if1 .taken))
@@ -43,6 +46,7 @@ pub with-vote-spec : {M : Type 1} → statement M
 with-vote-spec =
     tie.close
     (tie.spec
+    cast-k
     returns
     put-requires
     put-requires-2

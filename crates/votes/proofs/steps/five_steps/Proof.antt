@@ -74,22 +74,22 @@ alone n w m q h l e d =
     subst (λ x. Marks n x (λ k. eqb k (leader w n))) (sym (d ∙ ap (λ (x : Seat). withSeat 0 (x .0)) e)) (marks-seat n (leader w n) (leader-lt w n h) l)
 
 liar-marks : (c : tie.After-without) →
-    let at = c .before .before .before .before .before .before in
+    let at = c .before .before .before .before .before in
     let s = at .before .before .before .before .before .before in
     Marks (s .args .n) (c .before .with-seat .result) (λ k. eqb k (leader (at .before .top-view .result) (s .args .n)))
 liar-marks c =
     let liar = c .before in
-    let lead = liar .before .before in
+    let lead = liar .before in
     let at = lead .before .before .before in
     let s = at .before .before .before .before .before .before in
     alone (s .args .n) (at .before .top-view .result) (liar .with-seat .result) (lead .leader .result) (s .pre .0) (s .pre .1) (lead .leader .ensures) (liar .with-seat .ensures)
 
 others : (c : tie.After-without) →
-    let at = c .before .before .before .before .before .before in
+    let at = c .before .before .before .before .before in
     let s = at .before .before .before .before .before .before in
     Marks (s .args .n) (c .without .result) (isOther (s .args .n) (s .args .f) (bit (s .args .rows)) (vote s) (at .before .top-view .result))
 others c =
-    let at = c .before .before .before .before .before .before in
+    let at = c .before .before .before .before .before in
     let s = at .before .before .before .before .before .before in
     let liar = liar-marks c in
     marks-without (s .args .n) (s .args .rows) (c .before .with-seat .result) (c .without .result) (bit (s .args .rows)) (λ k. eqb k (leader (at .before .top-view .result) (s .args .n)))
@@ -139,9 +139,6 @@ returns-3 c = let two = c .before .before in
 leader-requires : tie.Need-leader-requires
 leader-requires c κs = search needs
 
-cast-with-seat : tie.Need-cast-with-seat
-cast-with-seat c = search needs
-
 with-seat-requires : tie.Need-with-seat-requires
 with-seat-requires c κs = search needs
 
@@ -154,7 +151,7 @@ seats-in-requires-2 c κs = search needs
 returns-4 : tie.Need-returns-4
 unfolding voteAt topped
 returns-4 c = let wo = c .before .before in
-    let if3 = wo .before .before .before .before in
+    let if3 = wo .before .before .before in
     let two = if3 .before in
     let at = two .before in
     let quorum = at .before .before .before .before .before in
@@ -181,7 +178,7 @@ returns-5 c = let sm = c .before in
     let left = sm .before in
     let if4 = left .before in
     let wo = if4 .before .before in
-    let if3 = wo .before .before .before .before in
+    let if3 = wo .before .before .before in
     let two = if3 .before in
     let at = two .before in
     let quorum = at .before .before .before .before .before in
@@ -212,7 +209,6 @@ five-steps-spec =
     entry-at-requires
     returns-3
     leader-requires
-    cast-with-seat
     with-seat-requires
     without-requires
     seats-in-requires-2

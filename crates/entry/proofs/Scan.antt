@@ -1,20 +1,16 @@
 -- How the code reads a serial: byte after byte, knowing whether the byte before was a blank.
 use Prim.Native.Nat.{ℕ, _≤_, _<_, _+_}
 use mathlib.Core.Path.{_≡_, refl, sym, ap, _∙_}
-use mathlib.Core.Bool.{Bool, true, false, not, _&&_, _||_}
+use mathlib.Core.Bool.{Bool, true, false, _&&_, _||_}
 use mathlib.Core.List.{List, [], _∷_}
 use native.Mathlib.Omega.{arith}
 use native.Mathlib.Numerals.{add-one}
-use lib.Dec.{leb}
 use lib.ListN.{length, getD, take, drop, length-take, drop-of-length-le}
 use lib.Seq.{drop-cons, getD-take}
 use borrow.Author.Tests.{eqb-true}
-use Rattle.entry.specs.Flags.{and-assoc, and-alone, or-alone}
+use Rattle.base.specs.Tests.{and-assoc, and-alone, or-alone}
+use Rattle.entry.specs.Follows.{follows}
 use Rattle.entry.specs.Entry.{all, visible, blank, serial}
-
--- Whether x may stand in a serial, behind a blank or behind none.
-abbrev pub follows : Bool → ℕ → Bool
-follows behind x = blank x || ((not behind && leb 0x21 x) && leb x 0x7E)
 
 abbrev pub scan : Bool → List ℕ → Bool
 scan behind [] = true
