@@ -38,9 +38,9 @@ abbrev pub b1 : Vote
 b1 = for b 1 0
 
 -- Votes by seat, as rows of the view that they are collected for.
-abbrev pub rowsOf : ℕ → List (ℕ × Vote) → List Row
-rowsOf v [] = []
-rowsOf v (x ∷ xs) = record { seat = record { 0 = x .0 }; verified = true; view = record { 0 = v }; vote = x .1 } ∷ rowsOf v xs
+abbrev pub collected : ℕ → List (ℕ × Vote) → List Row
+collected v [] = []
+collected v (x ∷ xs) = record { seat = record { 0 = x .0 }; verified = true; view = record { 0 = v }; vote = x .1 } ∷ collected v xs
 
 pub record Example : Type 0 where
   pub n : ℕ
@@ -50,7 +50,7 @@ pub record Example : Type 0 where
   pub answer : Selected
 
 abbrev pub example : ℕ → ℕ → ℕ → List (ℕ × Vote) → Choice → Example
-example n f v xs c = record { n = n; f = f; v = v; rows = rowsOf v xs; answer = Selected.Chosen c }
+example n f v xs c = record { n = n; f = f; v = v; rows = collected v xs; answer = Selected.Chosen c }
 
 -- "n = 4, f = 1, view 2 .. unless said"
 abbrev pub plain : List (ℕ × Vote) → Choice → Example

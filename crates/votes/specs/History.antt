@@ -4,11 +4,9 @@ use mathlib.Core.Path.{_≡_}
 use mathlib.Core.Bool.{Bool, not}
 use lib.Dec.{T}
 use Rattle.entry.specs.declared.Entry.{Entry}
-use Rattle.seats.specs.Seats.{leader, count}
-use Rattle.seats.specs.Mask.{bit}
+use Rattle.seats.specs.Seats.{count}
 use Rattle.votes.specs.declared.Vote.{Vote}
 use Rattle.votes.specs.declared.Choice.{Choice}
-use Rattle.votes.specs.Vote.{valid}
 
 -- By seat number: the view it is in, and what it sent.
 pub record History : Type 1 where
@@ -37,7 +35,8 @@ Leaves (Choice.Forced y) x = y ≡ x
 
 -- n seats, at most f of them faulty: `bad` says which.
 module _ (n f : ℕ) (bad : ℕ → Bool) where
-  -- y can never be decided in view w: more than f correct seats have left w and did not acknowledge y there.
+  -- y lacks the seats to be decided in view w: more than f correct seats have left w and did not acknowledge y there.
+  -- This speaks of the history so far; that later steps keep it is shown where runs are.
   pub record Dead (h : History) (w : ℕ) (y : Entry) : Type 0 where
     pub blocks : ℕ → Bool
     pub many : f < count blocks n
@@ -49,25 +48,12 @@ module _ (n f : ℕ) (bad : ℕ → Bool) where
   abbrev pub Safe : History → ℕ → Entry → Type 0
   Safe h v x = (w : ℕ) (y : Entry) → 1 ≤ w → w < v → (y ≡ x → ⊥) → Dead h w y
 
-  -- What a correct seat keeps to.
-  pub record Honest (h : History) : Type 0 where
+  -- What a correct seat keeps to, as the selection for view v needs it.
+  pub record Honest (h : History) (v : ℕ) : Type 0 where
     -- It sends its vote for a view on entering that view, and the vote tells of each acknowledgement before.
-    pub tells : (k : ℕ) → k < n → T (not (bad k)) → (v : ℕ) (x : Vote) → h .voted k v x
-        → (v ≤ h .view k) × ((w : ℕ) (e : Entry) → w < v → h .acked k w e → Covers x w e)
+    pub tells : (k : ℕ) → k < n → T (not (bad k)) → (u : ℕ) (x : Vote) → h .voted k u x
+        → (u ≤ h .view k) × ((w : ℕ) (e : Entry) → w < u → h .acked k w e → Covers x w e)
     -- No "correct leader proposing twice in one view".
-    pub once : (k : ℕ) → k < n → T (not (bad k)) → (v : ℕ) (x y : Entry) → h .proposed k v x → h .proposed k v y → x ≡ y
-    -- It confirms what is safe.
-    pub sound : (k : ℕ) → k < n → T (not (bad k)) → (v : ℕ) (x : Entry) → h .confirmed k v x → Safe h v x
-
-  -- Rows for view v that claim nothing of a correct seat that it did not do.
-  pub record Covered (h : History) (v : ℕ) (has : ℕ → Bool) (vote : ℕ → Vote) : Type 0 where
-    -- A row "speaks for its sender": a correct seat's is the vote it sent for v.
-    pub said : (k : ℕ) → k < n → T (has k) → T (not (bad k)) → h .voted k v (vote k)
-    -- "The mark inside a vote speaks for the leader of u and covers P, u and entry."
-    pub led : (k : ℕ) → k < n → T (has k) → T (vote k .cast) → T (not (bad (leader (vote k .view .0) n)))
-        → h .proposed (leader (vote k .view .0) n) (vote k .view .0) (vote k .entry)
-    -- "A mask bit covers that seat's C for that view and entry."
-    pub signed : (k : ℕ) → k < n → T (has k) → T (vote k .cast) → (j : ℕ) → j < n → T (bit (vote k .mask) j) → T (not (bad j))
-        → h .confirmed j (vote k .view .0) (vote k .entry)
-    -- "Over valid rows"
-    pub fine : (k : ℕ) → k < n → T (has k) → T (valid n f (record { 0 = v }) (vote k))
+    pub once : (k : ℕ) → k < n → T (not (bad k)) → (u : ℕ) (x y : Entry) → h .proposed k u x → h .proposed k u y → x ≡ y
+    -- What it confirmed before v is safe: the induction hypothesis of the paper's section 3.3.
+    pub sound : (k : ℕ) → k < n → T (not (bad k)) → (u : ℕ) (x : Entry) → u < v → h .confirmed k u x → Safe h u x

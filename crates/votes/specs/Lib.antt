@@ -2,6 +2,7 @@ pub mod Vote
 pub mod Selection
 pub mod Rows
 pub mod Steps
+pub mod VoteLaws
 pub mod RowLaws
 pub mod TableLaws
 pub mod Smallest
@@ -9,7 +10,10 @@ pub mod SelectionExt
 pub mod Ways
 pub mod Gather
 pub mod History
+pub mod Claims
 pub mod Safety
+pub mod Answers
 pub mod SafetyWitness
+pub mod TwoViews
 pub mod Examples
 pub mod Unique
