@@ -1,11 +1,51 @@
-# Reads .rt files. Each `pub fn` must ask nothing of its caller and say its answer: an `ensures` of the form
-#     λ r. ⌜ r ≡ d ⌝      or, of a table lent to be written,      λ r. ⌜ now (t .exit) ≡ d ⌝
-# with r nowhere in d. Any two answers that meet it are then equal (`one-answer`, crates/base/specs/Unique.antt).
-# Prints each function that does not, and how many there are; the exit status is 1 where one does not.
+# Reads .rt files. Each `pub fn` must ask nothing of its caller and settle all that it answers, in one `ensures`:
+#     r ≡ d                of a value that it returns; `now r ≡ d` where that is a part of lent memory
+#     now (t .exit) ≡ d    of every t that is lent to be written
+# or both, as (..) × (..), with r nowhere in a d. Any two answers that meet it are then equal (`one-answer` and `two-answers`,
+# crates/base/specs/Unique.antt). Prints each function that does not, and how many there are; the exit status is 1 where one does not.
 
 function bad(why) {
     printf "%s:%d: %s %s\n", FILENAME, at, name, why
     failed = 1
+}
+
+# Takes `left ≡ right` apart: what it settles goes into `settled`.
+function part(text,    cut, left, right) {
+    cut = index(text, " ≡ ")
+    left = substr(text, 1, cut - 1)
+    right = " " substr(text, cut + length(" ≡ ")) " "
+    gsub(/[()]/, " ", right)
+    if (!cut) bad("does not say what its answer is")
+    else if (index(right, " " binder " ")) bad("says its answer by its answer")
+    settled = settled " <" left ">"
+}
+
+function look(    text, cut, rest, lent) {
+    if (head !~ /ensures/) {
+        bad("has no ensures")
+        return
+    }
+    text = head
+    sub(/^.*ensures \{ λ /, "", text)
+    binder = text
+    sub(/\..*/, "", binder)
+    sub(/^[^⌜]*⌜ /, "", text)
+    sub(/ ⌝ \}.*$/, "", text)
+    settled = ""
+    cut = index(text, ") × (")
+    if (cut) {
+        part(substr(text, 2, cut - 2))
+        rest = substr(text, cut + length(") × ("))
+        part(substr(rest, 1, length(rest) - 1))
+    } else part(text)
+    if (head ~ /\) -> / && !index(settled, "<" binder ">") && !index(settled, "<now " binder ">")) bad("does not say what it returns")
+    rest = head
+    while (match(rest, /[a-z_]+: &('[a-z]+ )?mut /)) {
+        lent = substr(rest, RSTART, RLENGTH)
+        sub(/:.*/, "", lent)
+        if (!index(settled, "<now (" lent " .exit)>")) bad("does not say what becomes of " lent)
+        rest = substr(rest, RSTART + RLENGTH)
+    }
 }
 
 /^ *pub (extern "C" )?fn / {
@@ -13,33 +53,19 @@ function bad(why) {
     sub(/^ *pub (extern "C" )?fn /, "", name)
     sub(/[(<].*/, "", name)
     at = FNR
-    says = 0
-    head = 1
+    head = ""
+    inside = 1
     functions++
 }
 
-head && /requires/ { bad("asks something of its caller") }
+inside && /^ *requires/ { bad("asks something of its caller") }
 
-head && /ensures/ {
-    says = 1
-    text = $0
-    sub(/^.*ensures \{ λ /, "", text)
-    binder = text
-    sub(/\..*/, "", binder)
-    sub(/^[^⌜]*⌜ /, "", text)
-    sub(/ ⌝ \}.*$/, "", text)
-    cut = index(text, " ≡ ")
-    left = substr(text, 1, cut - 1)
-    right = " " substr(text, cut + length(" ≡ ")) " "
-    gsub(/[()]/, " ", right)
-    if (!cut || (left != binder && left !~ /^now \([a-z_]+ \.exit\)$/)) bad("does not say what its answer is")
-    else if (index(right, " " binder " ")) bad("says its answer by its answer")
+inside && /^ *\{ *$/ {
+    look()
+    inside = 0
 }
 
-head && /^ *\{ *$/ {
-    if (!says) bad("has no ensures")
-    head = 0
-}
+inside { head = head " " $0 }
 
 END {
     printf "%d public functions looked at\n", functions

@@ -1,7 +1,9 @@
 pub mod Entry
 pub mod Flags
-pub mod Laws
 pub mod Follows
+pub mod Hex
+pub mod HexLaws
+pub mod Laws
 pub mod Serial
 pub mod Table
 pub mod TableLaws

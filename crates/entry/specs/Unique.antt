@@ -4,8 +4,10 @@ use mathlib.Core.Path.{_≡_}
 use mathlib.Core.List.{List}
 use lib.ListN.{replicate}
 use Rattle.base.specs.Unique.{OneAnswer, one-answer}
+use Rattle.text.specs.Put.{placed}
 use Rattle.entry.specs.declared.Entry.{Entry}
 use Rattle.entry.specs.Entry.{zeroEntry, bytesOf, same, less, wellFormed}
+use Rattle.entry.specs.Hex.{entryField, entryText}
 use Rattle.entry.specs.Table.{tableWords, entryAt, withEntry}
 
 pub unique-zero : OneAnswer (λ r. r ≡ zeroEntry)
@@ -32,3 +34,10 @@ unique-entry-at t k = one-answer (entryAt t k)
 -- What is answered is the table at exit.
 pub unique-put-entry : (t : List ℕ) (k : ℕ) (e : Entry) → OneAnswer (λ after. after ≡ withEntry t k e)
 unique-put-entry t k e = one-answer (withEntry t k e)
+
+pub unique-read-entry : (f : List ℕ) → OneAnswer (λ r. r ≡ entryField f)
+unique-read-entry f = one-answer (entryField f)
+
+-- What is answered is the lent memory at exit.
+pub unique-put-text : (s : List ℕ) (p : ℕ) (e : Entry) → OneAnswer (λ after. after ≡ placed s p (entryText e))
+unique-put-text s p e = one-answer (placed s p (entryText e))

@@ -4,29 +4,23 @@ use mathlib.Core.Path.{_≡_, refl, sym, ap, ap₂, _∙_}
 use mathlib.Core.Bool.{Bool, true, false, _&&_, _||_}
 use mathlib.Core.List.{List, [], _∷_, _++_}
 use native.Mathlib.Omega.{arith}
-use native.Mathlib.Nat.{pow-suc, div-one, div-div-eq-div-mul, div-lt-iff-lt-mul, mod-lt}
+use native.Mathlib.Nat.{div-lt-iff-lt-mul, mod-lt}
 use lib.Dec.{T, eqb, ltb, ltb→lt, lt→ltb, lit<}
 use borrow.Author.Tests.{eqb-true, eq-eqb, eqb-false, ltb-true, ltb-false, lt-ltb, le-ltb}
 use lib.ListN.{length}
 use Rattle.base.specs.Tests.{and-l, and-r, and-i, and-true, and-assoc, same-test}
+use Rattle.text.specs.DigitLaws.{none-off, more-off}
 use Rattle.entry.specs.Flags.{two-steps}
 use Rattle.entry.specs.Entry.{all, lowBytes, wordBytes, wordOf, sameBytes, lessBytes}
-
--- What stands above k + 1 bytes stands above one byte of what stands above k.
-above : (w k : ℕ) → w / 256 ^ suc k ≡ w / 256 ^ k / 256
-above w k = rw pow-suc (sym (div-div-eq-div-mul w (256 ^ k) 256))
-
-above-none : (w : ℕ) → w / 256 ^ 0 ≡ w
-above-none w = div-one w
 
 -- A comparison that goes byte by byte goes word by word, where one step over a number's two parts is one step over the number.
 module _ (compare : List ℕ → List ℕ → Bool) (step : ℕ → ℕ → Bool → Bool)
     (by-step : (x y : ℕ) (xs ys : List ℕ) → compare (x ∷ xs) (y ∷ ys) ≡ step x y (compare xs ys))
     (parts : (p q : ℕ) (r : Bool) → step (p / 256) (q / 256) (step (p % 256) (q % 256) r) ≡ step p q r) where
   over-bytes : (k a b : ℕ) (xs ys : List ℕ) → compare (a / 256 ^ k ∷ lowBytes k a ++ xs) (b / 256 ^ k ∷ lowBytes k b ++ ys) ≡ step a b (compare xs ys)
-  over-bytes zero a b xs ys = by-step _ _ xs ys ∙ simp above-none
+  over-bytes zero a b xs ys = by-step _ _ xs ys ∙ simp (none-off 256)
   over-bytes (suc k) a b xs ys =
-      rw (by-step, by-step, above a k, above b k) (parts (a / 256 ^ k) (b / 256 ^ k) _ ∙ sym (by-step _ _ _ _) ∙ over-bytes k a b xs ys)
+      rw (by-step, by-step, more-off 256 k a, more-off 256 k b) (parts (a / 256 ^ k) (b / 256 ^ k) _ ∙ sym (by-step _ _ _ _) ∙ over-bytes k a b xs ys)
 
   pub by-word : (a b : ℕ) (xs ys : List ℕ) → compare (wordBytes a ++ xs) (wordBytes b ++ ys) ≡ step a b (compare xs ys)
   by-word = over-bytes 7
@@ -81,11 +75,11 @@ below-word = by-word lessBytes below (λ x y xs ys. refl) below-parts
 
 -- The bytes of a word make the word.
 read-low : (k w : ℕ) → wordOf (w / 256 ^ k) (lowBytes k w) ≡ w
-read-low zero w = above-none w
+read-low zero w = none-off 256 w
 read-low (suc k) w =
     let p = w / 256 ^ k in
     let whole : p / 256 * 256 + p % 256 ≡ p = omega arith in
-    rw above (ap (λ (v : ℕ). wordOf v (lowBytes k w)) whole ∙ read-low k w)
+    rw (more-off 256 k w) (ap (λ (v : ℕ). wordOf v (lowBytes k w)) whole ∙ read-low k w)
 
 pub word-back : (w : ℕ) → wordOf 0 (wordBytes w) ≡ w
 word-back w =
@@ -110,14 +104,14 @@ word-below w h = and-i (isByte (w / 256 ^ 7)) (all isByte (lowBytes 7 w)) (lt→
 
 -- Bytes that were read behind a word v leave v above them, and are the low bytes of what was made.
 read-back : (xs : List ℕ) (v : ℕ) → T (all isByte xs) → (wordOf v xs / 256 ^ length xs ≡ v) × (lowBytes (length xs) (wordOf v xs) ≡ xs)
-read-back [] v h = (above-none v, refl)
+read-back [] v h = (none-off 256 v, refl)
 read-back (x ∷ xs) v h =
     let r = read-back xs (v * 256 + x) (and-r (isByte x) (all isByte xs) h) in
     let small : x < 256 = ltb→lt x 256 (and-l (isByte x) (all isByte xs) h) in
     let high : (v * 256 + x) / 256 ≡ v = omega arith in
     let low : (v * 256 + x) % 256 ≡ x = omega arith in
     let w = wordOf (v * 256 + x) xs in (
-      above w (length xs) ∙ ap (λ (p : ℕ). p / 256) (r .0) ∙ high,
+      more-off 256 (length xs) w ∙ ap (λ (p : ℕ). p / 256) (r .0) ∙ high,
       ap₂ (λ (y : ℕ) (ys : List ℕ). y ∷ ys) (ap (λ (p : ℕ). p % 256) (r .0) ∙ low) (r .1),
     )
 

@@ -4,6 +4,7 @@ ghost use Rattle.entry.specs.Entry.{zeroEntry, bytesOf, same, less, well
 ghost use Rattle.entry.specs.Follows.{follows};
 
 pub mod table; // table.rt: one entry a seat
+pub mod hex; // hex.rt: its text in a line
 
 // Bytes of an entry, and of the serial that they begin with.
 pub const SIZE: usize = 16;

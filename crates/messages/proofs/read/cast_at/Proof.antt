@@ -1,0 +1,51 @@
+use Rattle.messages.proofs.Reading.{cast-is}
+use borrow.Author.Needs.{needs}
+use Rattle.messages.proofs.read.cast_at.Statement.{statement}
+use Rattle.messages.proofs.read.cast_at.Tie as tie
+use Rattle.messages.proofs.read.cast_at.Reads as reads
+use Rattle.messages.proofs.read.cast_at.Lts as lts
+use Rattle.messages.proofs.read.entry_at.Reads as entry-at-reads
+use Rattle.messages.proofs.read.hex_at.Reads as hex-at-reads
+use Rattle.messages.proofs.read.letter_at.Reads as letter-at-reads
+use Rattle.messages.proofs.read.mark_of.Reads as mark-of-reads
+use Rattle.messages.proofs.read.number_at.Reads as number-at-reads
+use Rattle.text.proofs.field.over.Reads as over-reads
+
+number-at-requires : tie.Need-number-at-requires
+number-at-requires c κs = search needs
+
+entry-at-requires : tie.Need-entry-at-requires
+entry-at-requires c κs = search needs
+
+hex-at-requires : tie.Need-hex-at-requires
+hex-at-requires c κs = search needs
+
+letter-at-requires : tie.Need-letter-at-requires
+letter-at-requires c κs = search needs
+
+mark-of-requires : tie.Need-mark-of-requires
+mark-of-requires c κs = search needs
+
+cast-t16 : tie.Need-cast-t16
+cast-t16 c = search needs
+
+over-requires : tie.Need-over-requires
+over-requires c κs = search needs
+
+returns : tie.Need-returns
+returns c = let k = c .before .before .before .before .before .before .before .before .before .before .before .before .before .before in
+    cast-is _ _ _ _ _ _ _ _ (k .before .before .before .before .number-at .ensures .0) (k .before .before .before .entry-at .ensures) (k .before .before .hex-at .ensures) (k .before .letter-at .ensures)
+    (k .mark-of .ensures) (c .over .ensures)
+
+pub cast-at-spec : {M : Type 1} → statement M
+cast-at-spec =
+    tie.close
+    (tie.spec
+    number-at-requires
+    entry-at-requires
+    hex-at-requires
+    letter-at-requires
+    mark-of-requires
+    cast-t16
+    over-requires
+    returns)

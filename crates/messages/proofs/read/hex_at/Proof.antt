@@ -1,0 +1,38 @@
+use Rattle.text.specs.declared.Number.{Number}
+use Rattle.text.specs.Digits.{hexOf}
+use Rattle.messages.proofs.Reading.{found, found-end, found-le}
+use Prim.Native.Nat.{ℕ}
+use mathlib.Core.Path.{ap, ap₂, _∙_}
+use native.Mathlib.Omega.{arith}
+use borrow.Author.Needs.{needs}
+use Rattle.messages.proofs.read.hex_at.Statement.{statement}
+use Rattle.messages.proofs.read.hex_at.Tie as tie
+use Rattle.messages.proofs.read.hex_at.Reads as reads
+use Rattle.messages.proofs.read.hex_at.Lts as lts
+use Rattle.text.proofs.digits.hex.Reads as hex-reads
+use Rattle.text.proofs.field.field.Reads as field-reads
+use Rattle.text.proofs.field.place_behind.Reads as place-behind-reads
+
+place-behind-requires : tie.Need-place-behind-requires
+place-behind-requires c κs = search needs
+
+field-requires : tie.Need-field-requires
+field-requires c κs = search needs
+
+hex-requires : tie.Need-hex-requires
+hex-requires c κs = search needs
+
+add-t7 : tie.Need-add-t7
+add-t7 c = let a = c .before .before .before .before .args in
+    let p = c .before .before .place-behind in
+    let f = c .before .field in
+    omega (arith, found-le (a .t .now) (a .end) (p .result) (f .result .now) (p .ensures) (f .ensures))
+
+returns : tie.Need-returns
+returns c = let a = c .before .before .before .before .args in
+    let p = c .before .before .place-behind in
+    let f = c .before .field in
+    ap₂ (λ (x : Number) (k : ℕ). record { number = x; end = k }) (c .hex .ensures ∙ ap hexOf (found (a .t .now) (a .end) (p .result) (f .result .now) (p .ensures) (f .ensures))) (found-end (a .t .now) (a .end) (p .result) (f .result .now) (p .ensures) (f .ensures))
+
+pub hex-at-spec : {M : Type 1} → statement M
+hex-at-spec = tie.close (tie.spec place-behind-requires field-requires hex-requires add-t7 returns)

@@ -1,0 +1,31 @@
+use mathlib.Core.List.{[], _∷_}
+use Rattle.entry.specs.Hex.{entryText}
+use Rattle.messages.specs.Lines.{head}
+use Rattle.text.specs.PutLaws.{tabs}
+use borrow.Author.Needs.{needs}
+use Rattle.messages.proofs.write.put_statement.Statement.{statement}
+use Rattle.messages.proofs.write.put_statement.Tie as tie
+use Rattle.messages.proofs.write.put_statement.Reads as reads
+use Rattle.messages.proofs.write.put_statement.Lts as lts
+use Rattle.messages.proofs.write.put_entry.Reads as put-entry-reads
+use Rattle.messages.proofs.write.put_head.Reads as put-head-reads
+
+put-head-requires : tie.Need-put-head-requires
+put-head-requires c κs = search needs
+
+put-entry-requires : tie.Need-put-entry-requires
+put-entry-requires c κs = search needs
+
+same-length : tie.Need-same-length
+same-length c = search needs
+
+returns : tie.Need-returns
+returns c = let e = c .before .before in
+    let h = e .before .before .before .before in
+    let a = h .before .before .before .args in
+    let x = a .x in
+    let t = entryText (x .entry) in
+    (tabs _ 1 (head (x .head) []) _ _ (t ∷ []) _ _ (h .put-head .ensures .0) (e .put-entry .ensures .0), search needs)
+
+pub put-statement-spec : {M : Type 1} → statement M
+put-statement-spec = tie.close (tie.spec put-head-requires put-entry-requires same-length returns)

@@ -1,0 +1,50 @@
+-- How many bytes the fields of a line take, each with the tab before it.
+use Prim.Native.Nat.{ℕ, _+_}
+use mathlib.Core.Path.{_≡_}
+use mathlib.Core.Bool.{Bool, true}
+use mathlib.Core.List.{List, [], _∷_}
+use native.Mathlib.Omega.{arith}
+use lib.ListN.{length}
+use Rattle.text.specs.DecimalLaws.{decimal-length}
+use Rattle.text.specs.Digits.{decimal, wordDigits, hex, width}
+use Rattle.text.specs.FieldLaws.{tabbed-length, line-length}
+use Rattle.text.specs.Fields.{tabbed}
+use Rattle.text.specs.HexLaws.{hex-length}
+use Rattle.entry.specs.Hex.{entryText}
+use Rattle.entry.specs.HexLaws.{entryDigits, text-length}
+use Rattle.entry.specs.declared.Entry.{Entry}
+use Rattle.votes.specs.declared.Vote.{Vote}
+use Rattle.messages.specs.declared.Head.{Head}
+use Rattle.messages.specs.declared.Message.{Message}
+use Rattle.messages.specs.Lines.{mark, view, head, vote, kind, fields, line}
+
+pub number-takes : (v : ℕ) (fs : List (List ℕ)) → length (tabbed (decimal v ∷ fs)) ≡ 1 + width v + length (tabbed fs)
+number-takes v fs = omega (arith, tabbed-length (decimal v) fs, decimal-length v)
+
+pub mask-takes : (w : ℕ) (fs : List (List ℕ)) → length (tabbed (hex w ∷ fs)) ≡ 1 + wordDigits + length (tabbed fs)
+mask-takes w fs = omega (arith, tabbed-length (hex w) fs, hex-length w)
+
+pub entry-takes : (x : Entry) (fs : List (List ℕ)) → length (tabbed (entryText x ∷ fs)) ≡ 1 + entryDigits + length (tabbed fs)
+entry-takes x fs = omega (arith, tabbed-length (entryText x) fs, text-length x)
+
+pub mark-takes : (verified : Bool) (fs : List (List ℕ)) → length (tabbed (mark verified ∷ fs)) ≡ 2 + length (tabbed fs)
+mark-takes verified fs = omega (arith, tabbed-length (mark verified) fs)
+
+-- Seat, mark and view.
+pub head-takes : (h : Head) (fs : List (List ℕ))
+    → length (tabbed (head h fs)) ≡ 4 + width (h .seat .0) + width (h .view .0) + length (tabbed fs)
+head-takes h fs =
+    let s = number-takes (h .seat .0) (mark (h .verified) ∷ view (h .view) ∷ fs) in
+    omega (arith, mark-takes (h .verified) (view (h .view) ∷ fs), number-takes (h .view .0) fs)
+
+-- A vote that is not nil: view, entry, mask and mark.
+pub vote-takes : (x : Vote) → length (tabbed (vote true x)) ≡ 5 + width (x .view .0) + entryDigits + wordDigits
+vote-takes x =
+    let m = mark (x .verified) ∷ [] in
+    let u = number-takes (x .view .0) (entryText (x .entry) ∷ hex (x .mask) ∷ m) in
+    omega (arith, entry-takes (x .entry) (hex (x .mask) ∷ m), mask-takes (x .mask) m, mark-takes (x .verified) [])
+
+-- Beside its fields a line has its kind and its LF.
+pub line-takes : (m : Message) → length (line m) ≡ 2 + length (tabbed (fields m))
+unfolding line
+line-takes m = line-length (kind m) (fields m)

@@ -1,0 +1,12 @@
+pub mod AtLaws
+pub mod Lengths
+pub mod Lines
+pub mod Longest
+pub mod ReadBack
+pub mod ReadExact
+pub mod Reader
+pub mod RoundTrip
+pub mod Setup
+pub mod SetupLaws
+pub mod Unique
+pub mod Writer

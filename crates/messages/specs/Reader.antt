@@ -1,0 +1,136 @@
+-- The reader as a function of the line, field by field. Nobody need believe it: `reads` in RoundTrip.antt says that its answer
+-- is the one that `Reads` in Lines.antt asks for.
+use Prim.Native.Nat.{ℕ}
+use mathlib.Core.Bool.{Bool, true, false, _&&_, _||_, cond}
+use mathlib.Core.List.{List}
+use lib.Dec.{eqb}
+use Rattle.text.specs.Digits.{decimalOf, hexOf, letterOf}
+use Rattle.text.specs.Fields.{fieldAt, behind, endBehind, over}
+use Rattle.entry.specs.Hex.{entryField}
+use Rattle.votes.specs.declared.Vote.{Vote}
+use Rattle.votes.specs.declared.Row.{Row}
+use Rattle.messages.specs.declared.Head.{Head}
+use Rattle.messages.specs.declared.Message.{Message}
+use Rattle.messages.specs.declared.Message.the-variants.{Start, Enter, Propose, Acknowledge, Cast, Request, Confirm}
+use Rattle.messages.specs.declared.read.Line.{Line}
+use Rattle.messages.specs.declared.read.Line.the-variants.{Read, Malformed}
+use Rattle.messages.specs.declared.read.NumberAt.{NumberAt}
+use Rattle.messages.specs.declared.read.LetterAt.{LetterAt}
+use Rattle.messages.specs.declared.read.EntryAt.{EntryAt}
+use Rattle.messages.specs.declared.read.Mark.{Mark}
+use Rattle.messages.specs.declared.read.HeadAt.{HeadAt}
+use Rattle.messages.specs.declared.read.StatementAt.{StatementAt}
+use Rattle.messages.specs.declared.read.ProposalAt.{ProposalAt}
+use Rattle.messages.specs.declared.read.QuestionAt.{QuestionAt}
+use Rattle.messages.specs.declared.read.ViewAt.{ViewAt}
+use Rattle.messages.specs.declared.read.RowAt.{RowAt}
+use Rattle.messages.specs.Lines.{plus, dash, topSeat, topView, topCount, nilVote}
+
+-- ---- the field behind the tab at place e, and where it ends
+abbrev pub numberAt : List ℕ → ℕ → ℕ → NumberAt
+numberAt t e max = record { number = decimalOf max (behind t e); end = endBehind t e }
+
+abbrev pub hexAt : List ℕ → ℕ → NumberAt
+hexAt t e = record { number = hexOf (behind t e); end = endBehind t e }
+
+abbrev pub entryAt : List ℕ → ℕ → EntryAt
+entryAt t e = record { field = entryField (behind t e); end = endBehind t e }
+
+abbrev pub letterAt : List ℕ → ℕ → LetterAt
+letterAt t e = record { letter = letterOf (behind t e); end = endBehind t e }
+
+abbrev pub markOf : ℕ → Mark
+markOf x = record { good = eqb x plus || eqb x dash; verified = eqb x plus }
+
+-- ---- the fields behind the kind, which ends at place e
+unfoldable pub headAt : List ℕ → ℕ → HeadAt
+headAt t e =
+    let s = numberAt t e topSeat in
+    let m = letterAt t (s .end) in
+    let v = numberAt t (m .end) topView in
+    record {
+      good = (s .number .good && markOf (m .letter) .good) && v .number .good;
+      head = record { seat = record { 0 = s .number .value }; verified = markOf (m .letter) .verified; view = record { 0 = v .number .value } };
+      end = v .end;
+    }
+
+unfoldable pub viewAt : List ℕ → ℕ → ViewAt
+viewAt t e =
+    let v = numberAt t e topView in
+    record { good = v .number .good && over t (v .end); view = record { 0 = v .number .value } }
+
+unfoldable pub statementAt : List ℕ → ℕ → StatementAt
+statementAt t e =
+    let h = headAt t e in
+    let x = entryAt t (h .end) in
+    record {
+      good = (h .good && x .field .good) && over t (x .end);
+      statement = record { head = h .head; entry = x .field .entry };
+    }
+
+unfoldable pub proposalAt : List ℕ → ℕ → ProposalAt
+proposalAt t e =
+    let h = headAt t e in
+    let x = entryAt t (h .end) in
+    let m = hexAt t (x .end) in
+    record {
+      good = ((h .good && x .field .good) && m .number .good) && over t (m .end);
+      proposal = record { head = h .head; entry = x .field .entry; mask = m .number .value };
+    }
+
+unfoldable pub questionAt : List ℕ → ℕ → QuestionAt
+questionAt t e =
+    let h = headAt t e in
+    let x = entryAt t (h .end) in
+    let c = numberAt t (x .end) topCount in
+    record {
+      good = ((h .good && x .field .good) && c .number .good) && over t (c .end);
+      question = record { head = h .head; entry = x .field .entry; count = c .number .value };
+    }
+
+abbrev pub rowOf : Head → Vote → Row
+rowOf h x = record { seat = h .seat; verified = h .verified; view = h .view; vote = x }
+
+unfoldable pub nilAt : List ℕ → HeadAt → ℕ → RowAt
+nilAt t h e = record { good = h .good && over t e; row = rowOf (h .head) nilVote }
+
+unfoldable pub castAt : List ℕ → HeadAt → RowAt
+castAt t h =
+    let u = numberAt t (h .end) topView in
+    let x = entryAt t (u .end) in
+    let c = hexAt t (x .end) in
+    let m = letterAt t (c .end) in
+    record {
+      good = ((((h .good && u .number .good) && x .field .good) && c .number .good) && markOf (m .letter) .good) && over t (m .end);
+      row = rowOf (h .head) (record {
+        entry = x .field .entry;
+        mask = c .number .value;
+        view = record { 0 = u .number .value };
+        cast = true;
+        verified = markOf (m .letter) .verified;
+      });
+    }
+
+unfoldable pub rowAt : List ℕ → ℕ → RowAt
+rowAt t e =
+    let h = headAt t e in
+    let d = letterAt t (h .end) in
+    cond (eqb (d .letter) dash) (nilAt t h (d .end)) (castAt t h)
+
+-- ---- the line, by its kind
+abbrev pub got : Bool → Message → Line
+got good m = cond good (Read m) Malformed
+
+unfoldable pub ofKind : List ℕ → ℕ → Line
+ofKind l k =
+    cond (eqb k 0x41) (got (statementAt l 1 .good) (Acknowledge (statementAt l 1 .statement)))
+    (cond (eqb k 0x56) (got (rowAt l 1 .good) (Cast (rowAt l 1 .row)))
+    (cond (eqb k 0x50) (got (proposalAt l 1 .good) (Propose (proposalAt l 1 .proposal)))
+    (cond (eqb k 0x43) (got (statementAt l 1 .good) (Confirm (statementAt l 1 .statement)))
+    (cond (eqb k 0x51) (got (questionAt l 1 .good) (Request (questionAt l 1 .question)))
+    (cond (eqb k 0x45) (got (viewAt l 1 .good) (Enter (viewAt l 1 .view)))
+    (cond (eqb k 0x53) (got (over l 1) Start)
+    Malformed))))))
+
+unfoldable pub readLine : List ℕ → Line
+readLine l = ofKind l (letterOf (fieldAt l 0))

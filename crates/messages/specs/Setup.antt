@@ -1,0 +1,56 @@
+-- 01, "The program trace": "a line `H` n f seat entry .. Here n, f and seat are 0 to 99; f may be `-`".
+use Prim.Native.Nat.{ℕ, _≤_}
+use mathlib.Core.Path.{_≡_}
+use mathlib.Core.Bool.{Bool, true, false, _&&_, _||_, cond}
+use mathlib.Core.List.{List, [], _∷_}
+use lib.Dec.{eqb}
+use Rattle.text.specs.Digits.{decimal, letterOf}
+use Rattle.text.specs.Fields.{lineOf, fieldAt, over}
+use Rattle.entry.specs.Hex.{entryText, IsEntry}
+use Rattle.messages.specs.declared.setup.Setup.{Setup}
+use Rattle.messages.specs.declared.setup.Opening.{Opening}
+use Rattle.messages.specs.declared.setup.Opening.the-variants.{Read, Malformed}
+use Rattle.messages.specs.Lines.{dash, topSeat, seat}
+use Rattle.messages.specs.Reader.{numberAt, letterAt, entryAt}
+
+-- `H`
+abbrev pub setupKind : ℕ
+setupKind = 0x48
+
+-- f, or a dash
+abbrev pub faulty : Bool → ℕ → List ℕ
+faulty true f = dash ∷ []
+faulty false f = decimal f
+
+unfoldable pub setupLine : Setup → List ℕ
+setupLine h = lineOf setupKind (decimal (h .n) ∷ faulty (h .dash) (h .f) ∷ seat (h .seat) ∷ entryText (h .entry) ∷ [])
+
+pub record FitsSetup (h : Setup) : Type 0 where
+  pub n : h .n ≤ topSeat
+  pub f : h .f ≤ topSeat
+  pub seat : h .seat .0 ≤ topSeat
+  pub entry : IsEntry (h .entry)
+  -- f is unused beside a dash
+  pub unused : h .dash ≡ true → h .f ≡ 0
+
+-- What reading an H is: what its line says, and 19 exactly where it is no such line.
+abbrev pub ReadsSetup : List ℕ → Opening → Type 0
+ReadsSetup l (Read h) = (l ≡ setupLine h) × FitsSetup h
+ReadsSetup l Malformed = (h : Setup) → FitsSetup h → l ≡ setupLine h → ⊥
+
+abbrev pub openingNumber : Opening → ℕ
+openingNumber (Read h) = 0
+openingNumber Malformed = 19
+
+-- The reader as a function of the line: `reads-setup` in SetupLaws.antt says that its answer is the one that `ReadsSetup` asks for.
+unfoldable pub readSetup : List ℕ → Opening
+readSetup l =
+    let n = numberAt l 1 topSeat in
+    let f = numberAt l (n .end) topSeat in
+    let d = eqb (letterAt l (n .end) .letter) dash in
+    let s = numberAt l (f .end) topSeat in
+    let x = entryAt l (s .end) in
+    cond
+    (((((eqb (letterOf (fieldAt l 0)) setupKind && n .number .good) && (f .number .good || d)) && s .number .good) && x .field .good) && over l (x .end))
+    (Read (record { n = n .number .value; f = f .number .value; dash = d; seat = record { 0 = s .number .value }; entry = x .field .entry }))
+    Malformed

@@ -1,0 +1,60 @@
+use mathlib.Core.List.{List}
+use Rattle.text.specs.FieldEnds.{field-out, end-here, end-on}
+use Rattle.text.specs.Fields.{fieldAt}
+use Prim.Native.Nat.{ℕ, _+_, _-_}
+use mathlib.Core.Path.{_≡_, sym, ap, _∙_}
+use lib.ListN.{length}
+use native.Mathlib.Omega.{arith}
+use borrow.Author.Needs.{needs}
+use Rattle.text.proofs.field.field_end.Statement.{statement}
+use Rattle.text.proofs.field.field_end.Tie as tie
+use Rattle.text.proofs.field.field_end.Reads as reads
+use Rattle.text.proofs.field.field_end.Lts as lts
+
+abbrev Inv-loop : tie.InvT-loop
+Inv-loop s from i₀ i = i + length (fieldAt s i) ≡ from + length (fieldAt s from)
+
+abbrev μ-loop : tie.MeasureT-loop
+μ-loop s from i₀ i = length s - i
+
+loop-holds : tie.Need-loop-holds Inv-loop μ-loop
+loop-holds c = search needs
+
+shared-slice-read-if2 : tie.Need-shared-slice-read-if2 Inv-loop μ-loop
+shared-slice-read-if2 c = search needs
+
+shared-slice-read-if2-2 : tie.Need-shared-slice-read-if2-2 Inv-loop μ-loop
+shared-slice-read-if2-2 c = search needs
+
+add-i : tie.Need-add-i Inv-loop μ-loop
+add-i c = search needs
+
+loop-less : tie.Need-loop-less Inv-loop μ-loop
+loop-less c = search needs
+
+loop-again : tie.Need-loop-again Inv-loop μ-loop
+loop-again c = let l = c .before .before .before .before .loop in
+    sym (end-on (c .before .before .before .before .before .args .s .now) (l .i) (omega arith) (c .if2 .left)) ∙ l .inv
+
+returns : tie.Need-returns Inv-loop μ-loop
+returns c = let l = c .before .loop in
+    sym (ap (λ (f : List ℕ). l .i + length f) (field-out (c .before .before .args .s .now) (l .i) (c .if1 .taken)) ∙ omega arith) ∙ l .inv
+
+returns-2 : tie.Need-returns-2 Inv-loop μ-loop
+returns-2 c = let l = c .before .before .before .before .loop in
+    sym (end-here (c .before .before .before .before .before .args .s .now) (l .i) (omega arith) (c .if2 .taken)) ∙ l .inv
+
+pub field-end-spec : {M : Type 1} → statement M
+field-end-spec =
+    tie.close
+    (tie.spec
+    Inv-loop
+    μ-loop
+    loop-holds
+    shared-slice-read-if2
+    shared-slice-read-if2-2
+    add-i
+    loop-less
+    loop-again
+    returns
+    returns-2)

@@ -1,0 +1,49 @@
+-- 01, "Lines": "fields parted by one tab, ended by one LF (0x0A)".
+use Prim.Native.Nat.{ℕ, _+_}
+use mathlib.Core.Bool.{Bool, _&&_, _||_, cond}
+use mathlib.Core.List.{List, [], _∷_, _++_}
+use lib.Dec.{eqb, ltb}
+use lib.ListN.{length, drop, getD}
+
+abbrev pub tab : ℕ
+tab = 9
+
+abbrev pub lf : ℕ
+lf = 0x0A
+
+-- ---- written
+
+-- Each field behind a tab.
+abbrev pub tabbed : List (List ℕ) → List ℕ
+tabbed [] = []
+tabbed (f ∷ fs) = tab ∷ (f ++ tabbed fs)
+
+-- A line: a kind of one byte, its fields, one LF.
+abbrev pub lineOf : ℕ → List (List ℕ) → List ℕ
+lineOf kind fs = kind ∷ (tabbed fs ++ (lf ∷ []))
+
+-- ---- read
+
+-- "A field ends at the first tab or at the end of the line, whichever is earlier": the field at the front of a text.
+abbrev pub upTo : List ℕ → List ℕ
+upTo [] = []
+upTo (b ∷ bs) = cond (eqb b tab || eqb b lf) [] (b ∷ upTo bs)
+
+-- The field that starts at place p.
+abbrev pub fieldAt : List ℕ → ℕ → List ℕ
+fieldAt t p = upTo (drop p t)
+
+-- Where the field behind the tab at place e starts; the end of the text where no tab stands there.
+abbrev pub placeBehind : List ℕ → ℕ → ℕ
+placeBehind t e = cond (ltb e (length t) && eqb (getD t e 0) tab) (e + 1) (length t)
+
+-- That field, and where it ends.
+unfoldable pub behind : List ℕ → ℕ → List ℕ
+behind t e = fieldAt t (placeBehind t e)
+
+unfoldable pub endBehind : List ℕ → ℕ → ℕ
+endBehind t e = placeBehind t e + length (behind t e)
+
+-- The line is over at place e: its LF stands there, and nothing behind it.
+abbrev pub over : List ℕ → ℕ → Bool
+over t e = ltb e (length t) && (eqb (getD t e 0) lf && eqb (length t) (e + 1))

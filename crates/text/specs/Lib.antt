@@ -1,0 +1,11 @@
+pub mod Clean
+pub mod DecimalLaws
+pub mod DigitLaws
+pub mod Digits
+pub mod FieldEnds
+pub mod FieldLaws
+pub mod Fields
+pub mod HexLaws
+pub mod Put
+pub mod PutLaws
+pub mod Unique

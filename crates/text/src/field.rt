@@ -1,0 +1,58 @@
+// A field ends at the first tab or at the end of the line. Nothing else looks for either.
+ghost use mathlib.Core.Path.{_≡_};
+ghost use Prim.Native.Nat.{_+_};
+ghost use lib.ListN.{length};
+ghost use Rattle.text.specs.Fields.{fieldAt, placeBehind, over};
+use crate::LF;
+use crate::TAB;
+
+// Where the field that starts at `from` ends.
+fn field_end(s: &[u8], from: usize) -> usize
+    ensures { λ r. ⌜ r ≡ from + length (fieldAt (now (s .entry)) from) ⌝ }
+{
+    let mut i = from;
+    let end = loop {
+        if s.len() <= i {
+            break i;
+        }
+        if (s[i] == TAB) | (s[i] == LF) {
+            break i;
+        }
+        i += 1;
+    };
+    end
+}
+
+// The field that starts at `from`, a part of the lent text; past its end the empty part there.
+pub fn field(s: &[u8], from: usize) -> &[u8]
+    ensures { λ r. ⌜ now r ≡ fieldAt (now (s .entry)) from ⌝ }
+{
+    let n = s.len();
+    if n < from {
+        return &s[n..n];
+    }
+    let end = field_end(s, from);
+    &s[from..end]
+}
+
+// Where the next field starts, if one ended at `end`: behind the tab. At the end of the text where there is no tab.
+pub fn place_behind(s: &[u8], end: usize) -> usize
+    ensures { λ r. ⌜ r ≡ placeBehind (now (s .entry)) end ⌝ }
+{
+    let n = s.len();
+    if n <= end {
+        return n;
+    }
+    if s[end] == TAB { end + 1 } else { n }
+}
+
+// Whether the line is over at `end`: its LF stands there, and nothing behind it.
+pub fn over(s: &[u8], end: usize) -> bool
+    ensures { λ r. ⌜ r ≡ over (now (s .entry)) end ⌝ }
+{
+    let n = s.len();
+    if n <= end {
+        return false;
+    }
+    (s[end] == LF) & (n - end == 1)
+}
