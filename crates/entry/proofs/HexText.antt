@@ -19,7 +19,8 @@ use Rattle.entry.specs.Hex.{entryText, entryField, IsEntry}
 use Rattle.entry.specs.HexLaws.{text-words, text-length, entryDigits}
 
 -- A field of less than a word holds no entry.
-pub short-field : (f : List ℕ) → length f < wordDigits → _≡_ {A = EntryField} (record { good = false; entry = zeroEntry }) (entryField f)
+pub short-field : (f : List ℕ) → length f < wordDigits
+    → _≡_ {A = EntryField} (record { good = false; entry = zeroEntry }) (entryField f)
 unfolding entryField hexOf
 short-field f h =
     sym (simp (
@@ -28,7 +29,8 @@ short-field f h =
     ))
 
 -- Of a longer one the two parts are read apart.
-pub two-words : (f : List ℕ) (h l : Number) → h ≡ hexOf (take wordDigits f) → l ≡ hexOf (take (length f - wordDigits) (drop wordDigits f))
+pub two-words : (f : List ℕ) (h l : Number) → h ≡ hexOf (take wordDigits f)
+    → l ≡ hexOf (take (length f - wordDigits) (drop wordDigits f))
     → _≡_ {A = EntryField} (record { good = h .good && l .good; entry = ofWords (h .value) (l .value) }) (entryField f)
 unfolding entryField
 two-words f h l a b =

@@ -1,6 +1,6 @@
 -- 01, "Lines": "Entries are 32 .. lowercase hex digits".
 use Prim.Native.Nat.{ℕ, _/_, _%_, _^_, _<_}
-use mathlib.Core.Bool.{Bool, _&&_}
+use mathlib.Core.Bool.{_&&_}
 use mathlib.Core.List.{List, [], _∷_}
 use lib.ListN.{take, drop}
 use Rattle.text.specs.Digits.{hexChar, hexOf, wordDigits}

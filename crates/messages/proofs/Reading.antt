@@ -23,8 +23,8 @@ use Rattle.messages.specs.declared.read.QuestionAt.{QuestionAt}
 use Rattle.messages.specs.declared.read.ViewAt.{ViewAt}
 use Rattle.messages.specs.declared.read.RowAt.{RowAt}
 use Rattle.messages.specs.Lines.{dash, topSeat, topView, topCount}
-use Rattle.messages.specs.Reader.{markOf, numberAt, hexAt, letterAt, entryAt, headAt, viewAt, statementAt, proposalAt, questionAt}
-use Rattle.messages.specs.Reader.{rowOf, nilAt, castAt, rowAt, ofKind, readLine}
+use Rattle.messages.specs.Reader.{markOf, numberAt, hexAt, letterAt, entryAt, headAt, viewAt, statementAt, proposalAt}
+use Rattle.messages.specs.Reader.{questionAt, rowOf, nilAt, castAt, rowAt, ofKind, readLine}
 
 module _ (t : List ℕ) (e p : ℕ) (f : List ℕ) (a : p ≡ placeBehind t e) (b : f ≡ fieldAt t p) where
   -- The field at the place behind a tab is the field behind it.
@@ -91,8 +91,8 @@ unfolding nilAt
 nil-is t h e o z a b = simp (b, a)
 
 pub cast-is : (t : List ℕ) (h : HeadAt) (u : NumberAt) (x : EntryAt) (c : NumberAt) (m : LetterAt) (k : Mark) (o : Bool)
-    → u ≡ numberAt t (h .end) topView → x ≡ entryAt t (u .end) → c ≡ hexAt t (x .end) → m ≡ letterAt t (c .end) → k ≡ markOf (m .letter)
-    → o ≡ over t (m .end)
+    → u ≡ numberAt t (h .end) topView → x ≡ entryAt t (u .end) → c ≡ hexAt t (x .end) → m ≡ letterAt t (c .end)
+    → k ≡ markOf (m .letter) → o ≡ over t (m .end)
     → _≡_ {A = RowAt} (record {
       good = ((((h .good && u .number .good) && x .field .good) && c .number .good) && k .good) && o;
       row = rowOf (h .head) (record {
@@ -123,9 +123,17 @@ module _ (l f : List ℕ) (k : ℕ) (a : k ≡ letterOf f) (b : f ≡ fieldAt l 
   unfolding readLine
   kind-is x e = ap (ofKind l) (sym e ∙ a ∙ ap letterOf b)
 
-  pub no-kind : (k ≡ 0x41 → ⊥) → (k ≡ 0x56 → ⊥) → (k ≡ 0x50 → ⊥) → (k ≡ 0x43 → ⊥) → (k ≡ 0x51 → ⊥) → (k ≡ 0x45 → ⊥) → (k ≡ 0x53 → ⊥)
-      → Malformed ≡ readLine l
+  pub no-kind : (k ≡ 0x41 → ⊥) → (k ≡ 0x56 → ⊥) → (k ≡ 0x50 → ⊥) → (k ≡ 0x43 → ⊥) → (k ≡ 0x51 → ⊥) → (k ≡ 0x45 → ⊥)
+      → (k ≡ 0x53 → ⊥) → Malformed ≡ readLine l
   unfolding ofKind
   no-kind p q r s t u v =
-      sym (simp (ne-eqb k 0x41 p, ne-eqb k 0x56 q, ne-eqb k 0x50 r, ne-eqb k 0x43 s, ne-eqb k 0x51 t, ne-eqb k 0x45 u, ne-eqb k 0x53 v))
+      sym (simp (
+        ne-eqb k 0x41 p,
+        ne-eqb k 0x56 q,
+        ne-eqb k 0x50 r,
+        ne-eqb k 0x43 s,
+        ne-eqb k 0x51 t,
+        ne-eqb k 0x45 u,
+        ne-eqb k 0x53 v,
+      ))
       ∙ kind-is k refl

@@ -21,7 +21,9 @@ module _ (l g : List ℕ) (k : ℕ) (n f : NumberAt) (d : LetterAt) (s : NumberA
     (es : s ≡ numberAt l (f .end) topSeat) (ex : x ≡ entryAt l (s .end)) (eo : o ≡ over l (x .end)) where
   -- Every field is good, and the line is over.
   abbrev whole : Bool
-  whole = ((((eqb k setupKind && n .number .good) && (f .number .good || eqb (d .letter) dash)) && s .number .good) && x .field .good) && o
+  whole =
+      ((((eqb k setupKind && n .number .good) && (f .number .good || eqb (d .letter) dash)) && s .number .good) && x .field .good)
+      && o
 
   abbrev said : Setup
   said = record {

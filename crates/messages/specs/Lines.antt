@@ -12,9 +12,6 @@ use Rattle.seats.specs.declared.View.{View}
 use Rattle.votes.specs.declared.Vote.{Vote}
 use Rattle.votes.specs.declared.Row.{Row}
 use Rattle.messages.specs.declared.Head.{Head}
-use Rattle.messages.specs.declared.Statement.{Statement}
-use Rattle.messages.specs.declared.Proposal.{Proposal}
-use Rattle.messages.specs.declared.Question.{Question}
 use Rattle.messages.specs.declared.Message.{Message}
 use Rattle.messages.specs.declared.Message.the-variants.{Start, Enter, Propose, Acknowledge, Cast, Request, Confirm}
 use Rattle.messages.specs.declared.read.Line.{Line}

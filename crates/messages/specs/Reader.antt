@@ -1,7 +1,7 @@
 -- The reader as a function of the line, field by field. Nobody need believe it: `reads` in RoundTrip.antt says that its answer
 -- is the one that `Reads` in Lines.antt asks for.
 use Prim.Native.Nat.{ℕ}
-use mathlib.Core.Bool.{Bool, true, false, _&&_, _||_, cond}
+use mathlib.Core.Bool.{Bool, true, _&&_, _||_, cond}
 use mathlib.Core.List.{List}
 use lib.Dec.{eqb}
 use Rattle.text.specs.Digits.{decimalOf, hexOf, letterOf}
@@ -48,9 +48,10 @@ headAt t e =
     let s = numberAt t e topSeat in
     let m = letterAt t (s .end) in
     let v = numberAt t (m .end) topView in
+    let k = markOf (m .letter) in
     record {
-      good = (s .number .good && markOf (m .letter) .good) && v .number .good;
-      head = record { seat = record { 0 = s .number .value }; verified = markOf (m .letter) .verified; view = record { 0 = v .number .value } };
+      good = (s .number .good && k .good) && v .number .good;
+      head = record { seat = record { 0 = s .number .value }; verified = k .verified; view = record { 0 = v .number .value } };
       end = v .end;
     }
 
@@ -100,14 +101,15 @@ castAt t h =
     let x = entryAt t (u .end) in
     let c = hexAt t (x .end) in
     let m = letterAt t (c .end) in
+    let k = markOf (m .letter) in
     record {
-      good = ((((h .good && u .number .good) && x .field .good) && c .number .good) && markOf (m .letter) .good) && over t (m .end);
+      good = ((((h .good && u .number .good) && x .field .good) && c .number .good) && k .good) && over t (m .end);
       row = rowOf (h .head) (record {
         entry = x .field .entry;
         mask = c .number .value;
         view = record { 0 = u .number .value };
         cast = true;
-        verified = markOf (m .letter) .verified;
+        verified = k .verified;
       });
     }
 

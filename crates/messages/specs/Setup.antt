@@ -42,7 +42,8 @@ abbrev pub openingNumber : Opening → ℕ
 openingNumber (Read h) = 0
 openingNumber Malformed = 19
 
--- The reader as a function of the line: `reads-setup` in SetupLaws.antt says that its answer is the one that `ReadsSetup` asks for.
+-- The reader as a function of the line. `reads-setup` in SetupLaws.antt says that its answer is the one that `ReadsSetup` asks
+-- for.
 unfoldable pub readSetup : List ℕ → Opening
 readSetup l =
     let n = numberAt l 1 topSeat in
@@ -50,7 +51,13 @@ readSetup l =
     let d = eqb (letterAt l (n .end) .letter) dash in
     let s = numberAt l (f .end) topSeat in
     let x = entryAt l (s .end) in
-    cond
-    (((((eqb (letterOf (fieldAt l 0)) setupKind && n .number .good) && (f .number .good || d)) && s .number .good) && x .field .good) && over l (x .end))
-    (Read (record { n = n .number .value; f = f .number .value; dash = d; seat = record { 0 = s .number .value }; entry = x .field .entry }))
-    Malformed
+    let kind = eqb (letterOf (fieldAt l 0)) setupKind in
+    let numbers = ((kind && n .number .good) && (f .number .good || d)) && s .number .good in
+    let said : Setup = record {
+      n = n .number .value;
+      f = f .number .value;
+      dash = d;
+      seat = record { 0 = s .number .value };
+      entry = x .field .entry;
+    } in
+    cond ((numbers && x .field .good) && over l (x .end)) (Read said) Malformed

@@ -2,7 +2,8 @@
 // of a field takes; so every kind is straight code, and looks at the end of the line once.
 ghost use mathlib.Core.Path.{_≡_};
 ghost use Prim.Native.Nat.{_≤_};
-ghost use Rattle.messages.specs.Reader.{markOf, numberAt, hexAt, letterAt, entryAt, headAt, statementAt, proposalAt, questionAt, viewAt, nilAt, castAt, rowAt, got, readLine};
+ghost use Rattle.messages.specs.Reader.{markOf, numberAt, hexAt, letterAt, entryAt, headAt, statementAt, proposalAt};
+ghost use Rattle.messages.specs.Reader.{questionAt, viewAt, nilAt, castAt, rowAt, got, readLine};
 use crate::ACKNOWLEDGE;
 use crate::CAST;
 use crate::CONFIRM;

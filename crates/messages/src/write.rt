@@ -7,6 +7,7 @@ ghost use Rattle.text.specs.Digits.{decimal, hex};
 ghost use Rattle.text.specs.Fields.{tabbed, lineOf};
 ghost use Rattle.text.specs.Put.{Puts};
 ghost use Rattle.entry.specs.Hex.{entryText};
+ghost use Rattle.messages.specs.declared.Message.the-variants.{Propose, Acknowledge, Cast, Request};
 ghost use Rattle.messages.specs.Lines.{mark, head, vote, rowHead, kind, fields, line};
 ghost use Rattle.messages.specs.Writer.{seated, writable, written, lent, afterwards};
 use crate::ACKNOWLEDGE;
@@ -181,15 +182,17 @@ fn put_vote(s: &mut [u8], at: usize, x: Vote) -> usize
 }
 
 // ---- the fields behind a kind
+
+// Of an A, and of a C.
 fn put_statement(s: &mut [u8], x: Statement) -> usize
-    ensures { λ r. ⌜ (Puts (now (s .entry)) 1 (tabbed (head (x .head) (entryText (x .entry) ∷ []))) r (now (s .exit))) × (r ≤ 128) ⌝ }
+    ensures { λ r. ⌜ (Puts (now (s .entry)) 1 (tabbed (fields (Acknowledge x))) r (now (s .exit))) × (r ≤ 128) ⌝ }
 {
     let a = put_head(s, x.head);
     put_entry(s, a, x.entry)
 }
 
 fn put_proposal(s: &mut [u8], x: Proposal) -> usize
-    ensures { λ r. ⌜ (Puts (now (s .entry)) 1 (tabbed (head (x .head) (entryText (x .entry) ∷ hex (x .mask) ∷ []))) r (now (s .exit))) × (r ≤ 128) ⌝ }
+    ensures { λ r. ⌜ (Puts (now (s .entry)) 1 (tabbed (fields (Propose x))) r (now (s .exit))) × (r ≤ 128) ⌝ }
 {
     let a = put_head(s, x.head);
     let b = put_entry(s, a, x.entry);
@@ -197,7 +200,7 @@ fn put_proposal(s: &mut [u8], x: Proposal) -> usize
 }
 
 fn put_question(s: &mut [u8], x: Question) -> usize
-    ensures { λ r. ⌜ (Puts (now (s .entry)) 1 (tabbed (head (x .head) (entryText (x .entry) ∷ decimal (x .count) ∷ []))) r (now (s .exit))) × (r ≤ 128) ⌝ }
+    ensures { λ r. ⌜ (Puts (now (s .entry)) 1 (tabbed (fields (Request x))) r (now (s .exit))) × (r ≤ 128) ⌝ }
 {
     let a = put_head(s, x.head);
     let b = put_entry(s, a, x.entry);
@@ -205,7 +208,7 @@ fn put_question(s: &mut [u8], x: Question) -> usize
 }
 
 fn put_row(s: &mut [u8], x: Row) -> usize
-    ensures { λ r. ⌜ (Puts (now (s .entry)) 1 (tabbed (head (rowHead x) (vote (x .vote .cast) (x .vote)))) r (now (s .exit))) × (r ≤ 128) ⌝ }
+    ensures { λ r. ⌜ (Puts (now (s .entry)) 1 (tabbed (fields (Cast x))) r (now (s .exit))) × (r ≤ 128) ⌝ }
 {
     let a = put_head(s, row_head(x));
     put_vote(s, a, x.vote)

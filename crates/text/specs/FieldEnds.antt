@@ -17,7 +17,8 @@ pub up-take : (l : List ℕ) → take (length (upTo l)) l ≡ upTo l
 up-take [] = refl
 up-take (b ∷ bs) = go (up-take bs) (eqb b tab || eqb b lf)
   where
-    go : take (length (upTo bs)) bs ≡ upTo bs → (t : Bool) → take (length (cond t [] (b ∷ upTo bs))) (b ∷ bs) ≡ cond t [] (b ∷ upTo bs)
+    go : take (length (upTo bs)) bs ≡ upTo bs → (t : Bool)
+        → take (length (cond t [] (b ∷ upTo bs))) (b ∷ bs) ≡ cond t [] (b ∷ upTo bs)
     go ih true = refl
     go ih false = ap (λ (l : List ℕ). b ∷ l) ih
 
@@ -50,7 +51,8 @@ pub field-out : (s : List ℕ) (i : ℕ) → length s ≤ i → fieldAt s i ≡ 
 field-out s i h = let n : drop i s ≡ [] = drop-of-length-le s {i = i} h in simp n
 
 -- One that starts where a tab or an LF stands is empty; any other byte belongs to it.
-pub end-here : (s : List ℕ) (i : ℕ) → i < length s → (eqb (getD s i 0) tab || eqb (getD s i 0) lf) ≡ true → i + length (fieldAt s i) ≡ i
+pub end-here : (s : List ℕ) (i : ℕ) → i < length s → (eqb (getD s i 0) tab || eqb (getD s i 0) lf) ≡ true
+    → i + length (fieldAt s i) ≡ i
 end-here s i h e = rw (drop-cons s i 0 h, e) (omega arith)
 
 pub end-on : (s : List ℕ) (i : ℕ) → i < length s → (eqb (getD s i 0) tab || eqb (getD s i 0) lf) ≡ false

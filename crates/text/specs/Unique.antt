@@ -38,5 +38,6 @@ unique-put-hex s p w = one-answer (placed s p (hex w))
 pub unique-width : (v : ℕ) → OneAnswer (λ r. r ≡ width v)
 unique-width v = one-answer (width v)
 
-pub unique-put-decimal : (s : List ℕ) (p v : ℕ) → OneAnswer {A = ℕ × List ℕ} (λ r. (r .0 ≡ width v) × (r .1 ≡ placed s p (decimal v)))
+pub unique-put-decimal : (s : List ℕ) (p v : ℕ)
+    → OneAnswer {A = ℕ × List ℕ} (λ r. (r .0 ≡ width v) × (r .1 ≡ placed s p (decimal v)))
 unique-put-decimal s p v = two-answers (width v) (placed s p (decimal v))

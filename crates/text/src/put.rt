@@ -62,7 +62,7 @@ pub fn width(v: u64) -> usize
     k
 }
 
-// A decimal with no leading zero, written from its last digit. It answers how many digits that takes, also where they have no room.
+// A decimal with no leading zero, from its last digit on. The answer is how many digits it has, also where they have no room.
 pub fn put_decimal(s: &mut [u8], at: usize, v: u64) -> usize
     ensures { λ r. ⌜ (r ≡ width v) × (now (s .exit) ≡ placed (now (s .entry)) at (decimal v)) ⌝ }
 {

@@ -8,10 +8,6 @@ use native.Mathlib.Omega.{arith}
 use borrow.Author.Needs.{needs}
 use Rattle.entry.proofs.hex.put_text.Statement.{statement}
 use Rattle.entry.proofs.hex.put_text.Tie as tie
-use Rattle.entry.proofs.hex.put_text.Reads as reads
-use Rattle.entry.proofs.hex.put_text.Lts as lts
-use Rattle.text.proofs.put.has_room.Reads as has-room-reads
-use Rattle.text.proofs.put.put_hex.Reads as put-hex-reads
 
 has-room-requires : tie.Need-has-room-requires
 has-room-requires c κs = search needs
@@ -31,7 +27,8 @@ add-put-hex : tie.Need-add-put-hex
 add-put-hex c = let k = c .before .before .before .before .before .before in
     let a = k .before .before .before .args in
     let r = k .has-room in
-    omega (arith, leb-true (a .at + entryDigits) (length (a .s .now)) (sym (r .ensures) ∙ not-false (r .result) (c .before .before .before .before .before .if1 .left)))
+    let here = sym (r .ensures) ∙ not-false (r .result) (c .before .before .before .before .before .if1 .left) in
+    omega (arith, leb-true (a .at + entryDigits) (length (a .s .now)) here)
 
 put-hex-requires-2 : tie.Need-put-hex-requires-2
 put-hex-requires-2 c κs = search needs
@@ -43,7 +40,8 @@ returns-2 : tie.Need-returns-2
 returns-2 c = let k = c .before .before .before .before .before .before .before .before .before in
     let a = k .before .before .before .args in
     let r = k .has-room in
-    let here = sym (r .ensures) ∙ not-false (r .result) (c .before .before .before .before .before .before .before .before .if1 .left) in
+    let open-at = c .before .before .before .before .before .before .before .before .if1 .left in
+    let here = sym (r .ensures) ∙ not-false (r .result) open-at in
     put-words (a .s .now) (a .at) (a .e) _ _ (record { hi = search needs; lo = search needs }) here
     (c .before .before .before .before .before .before .put-hex .ensures) (c .before .before .put-hex2 .ensures)
 

@@ -2,9 +2,6 @@ use Rattle.entry.proofs.HexText.{short-field, two-words}
 use borrow.Author.Needs.{needs}
 use Rattle.entry.proofs.hex.read_entry.Statement.{statement}
 use Rattle.entry.proofs.hex.read_entry.Tie as tie
-use Rattle.entry.proofs.hex.read_entry.Reads as reads
-use Rattle.entry.proofs.hex.read_entry.Lts as lts
-use Rattle.text.proofs.digits.hex.Reads as hex-reads
 
 returns : tie.Need-returns
 returns c = short-field (c .before .before .args .t .now) (c .if1 .taken)

@@ -2,14 +2,6 @@ use Rattle.messages.proofs.Reading.{cast-is}
 use borrow.Author.Needs.{needs}
 use Rattle.messages.proofs.read.cast_at.Statement.{statement}
 use Rattle.messages.proofs.read.cast_at.Tie as tie
-use Rattle.messages.proofs.read.cast_at.Reads as reads
-use Rattle.messages.proofs.read.cast_at.Lts as lts
-use Rattle.messages.proofs.read.entry_at.Reads as entry-at-reads
-use Rattle.messages.proofs.read.hex_at.Reads as hex-at-reads
-use Rattle.messages.proofs.read.letter_at.Reads as letter-at-reads
-use Rattle.messages.proofs.read.mark_of.Reads as mark-of-reads
-use Rattle.messages.proofs.read.number_at.Reads as number-at-reads
-use Rattle.text.proofs.field.over.Reads as over-reads
 
 number-at-requires : tie.Need-number-at-requires
 number-at-requires c κs = search needs
@@ -33,8 +25,11 @@ over-requires : tie.Need-over-requires
 over-requires c κs = search needs
 
 returns : tie.Need-returns
-returns c = let k = c .before .before .before .before .before .before .before .before .before .before .before .before .before .before in
-    cast-is _ _ _ _ _ _ _ _ (k .before .before .before .before .number-at .ensures .0) (k .before .before .before .entry-at .ensures) (k .before .before .hex-at .ensures) (k .before .letter-at .ensures)
+returns c =
+    let j = c .before .before .before .before .before .before .before in
+    let k = j .before .before .before .before .before .before .before in
+    cast-is _ _ _ _ _ _ _ _ (k .before .before .before .before .number-at .ensures .0) (k .before .before .before .entry-at .ensures)
+    (k .before .before .hex-at .ensures) (k .before .letter-at .ensures)
     (k .mark-of .ensures) (c .over .ensures)
 
 pub cast-at-spec : {M : Type 1} → statement M

@@ -7,11 +7,6 @@ use native.Mathlib.Omega.{arith}
 use borrow.Author.Needs.{needs}
 use Rattle.messages.proofs.read.entry_at.Statement.{statement}
 use Rattle.messages.proofs.read.entry_at.Tie as tie
-use Rattle.messages.proofs.read.entry_at.Reads as reads
-use Rattle.messages.proofs.read.entry_at.Lts as lts
-use Rattle.entry.proofs.hex.read_entry.Reads as read-entry-reads
-use Rattle.text.proofs.field.field.Reads as field-reads
-use Rattle.text.proofs.field.place_behind.Reads as place-behind-reads
 
 place-behind-requires : tie.Need-place-behind-requires
 place-behind-requires c κs = search needs
@@ -32,7 +27,9 @@ returns : tie.Need-returns
 returns c = let a = c .before .before .before .before .args in
     let p = c .before .before .place-behind in
     let f = c .before .field in
-    ap₂ (λ (x : EntryField) (k : ℕ). record { field = x; end = k }) (c .read-entry .ensures ∙ ap entryField (found (a .t .now) (a .end) (p .result) (f .result .now) (p .ensures) (f .ensures))) (found-end (a .t .now) (a .end) (p .result) (f .result .now) (p .ensures) (f .ensures))
+    let is = found (a .t .now) (a .end) (p .result) (f .result .now) (p .ensures) (f .ensures) in
+    let ends = found-end (a .t .now) (a .end) (p .result) (f .result .now) (p .ensures) (f .ensures) in
+    ap₂ (λ (x : EntryField) (k : ℕ). record { field = x; end = k }) (c .read-entry .ensures ∙ ap entryField is) ends
 
 pub entry-at-spec : {M : Type 1} → statement M
 entry-at-spec =

@@ -2,11 +2,6 @@ use Rattle.messages.proofs.Reading.{head-is}
 use borrow.Author.Needs.{needs}
 use Rattle.messages.proofs.read.head_at.Statement.{statement}
 use Rattle.messages.proofs.read.head_at.Tie as tie
-use Rattle.messages.proofs.read.head_at.Reads as reads
-use Rattle.messages.proofs.read.head_at.Lts as lts
-use Rattle.messages.proofs.read.letter_at.Reads as letter-at-reads
-use Rattle.messages.proofs.read.mark_of.Reads as mark-of-reads
-use Rattle.messages.proofs.read.number_at.Reads as number-at-reads
 
 number-at-requires : tie.Need-number-at-requires
 number-at-requires c κs = search needs
@@ -28,7 +23,8 @@ cast-t13 c = search needs
 
 returns : tie.Need-returns
 returns c = let k = c .before .before .before .before .before .before in
-    head-is _ _ _ _ _ _ (k .before .before .before .before .number-at .ensures .0) (k .before .before .before .letter-at .ensures) (k .before .before .number-at2 .ensures .0) (k .mark-of .ensures)
+    head-is _ _ _ _ _ _ (k .before .before .before .before .number-at .ensures .0) (k .before .before .before .letter-at .ensures)
+    (k .before .before .number-at2 .ensures .0) (k .mark-of .ensures)
 
 pub head-at-spec : {M : Type 1} → statement M
 head-at-spec =

@@ -7,11 +7,6 @@ use native.Mathlib.Omega.{arith}
 use borrow.Author.Needs.{needs}
 use Rattle.messages.proofs.read.hex_at.Statement.{statement}
 use Rattle.messages.proofs.read.hex_at.Tie as tie
-use Rattle.messages.proofs.read.hex_at.Reads as reads
-use Rattle.messages.proofs.read.hex_at.Lts as lts
-use Rattle.text.proofs.digits.hex.Reads as hex-reads
-use Rattle.text.proofs.field.field.Reads as field-reads
-use Rattle.text.proofs.field.place_behind.Reads as place-behind-reads
 
 place-behind-requires : tie.Need-place-behind-requires
 place-behind-requires c κs = search needs
@@ -32,7 +27,9 @@ returns : tie.Need-returns
 returns c = let a = c .before .before .before .before .args in
     let p = c .before .before .place-behind in
     let f = c .before .field in
-    ap₂ (λ (x : Number) (k : ℕ). record { number = x; end = k }) (c .hex .ensures ∙ ap hexOf (found (a .t .now) (a .end) (p .result) (f .result .now) (p .ensures) (f .ensures))) (found-end (a .t .now) (a .end) (p .result) (f .result .now) (p .ensures) (f .ensures))
+    let is = found (a .t .now) (a .end) (p .result) (f .result .now) (p .ensures) (f .ensures) in
+    let ends = found-end (a .t .now) (a .end) (p .result) (f .result .now) (p .ensures) (f .ensures) in
+    ap₂ (λ (x : Number) (k : ℕ). record { number = x; end = k }) (c .hex .ensures ∙ ap hexOf is) ends
 
 pub hex-at-spec : {M : Type 1} → statement M
 hex-at-spec = tie.close (tie.spec place-behind-requires field-requires hex-requires add-t7 returns)

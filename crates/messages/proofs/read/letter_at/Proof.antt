@@ -6,11 +6,6 @@ use native.Mathlib.Omega.{arith}
 use borrow.Author.Needs.{needs}
 use Rattle.messages.proofs.read.letter_at.Statement.{statement}
 use Rattle.messages.proofs.read.letter_at.Tie as tie
-use Rattle.messages.proofs.read.letter_at.Reads as reads
-use Rattle.messages.proofs.read.letter_at.Lts as lts
-use Rattle.text.proofs.digits.letter.Reads as letter-reads
-use Rattle.text.proofs.field.field.Reads as field-reads
-use Rattle.text.proofs.field.place_behind.Reads as place-behind-reads
 
 place-behind-requires : tie.Need-place-behind-requires
 place-behind-requires c κs = search needs
@@ -31,7 +26,9 @@ returns : tie.Need-returns
 returns c = let a = c .before .before .before .before .args in
     let p = c .before .before .place-behind in
     let f = c .before .field in
-    ap₂ (λ (x k : ℕ). record { letter = x; end = k }) (c .letter .ensures ∙ ap letterOf (found (a .t .now) (a .end) (p .result) (f .result .now) (p .ensures) (f .ensures))) (found-end (a .t .now) (a .end) (p .result) (f .result .now) (p .ensures) (f .ensures))
+    let is = found (a .t .now) (a .end) (p .result) (f .result .now) (p .ensures) (f .ensures) in
+    let ends = found-end (a .t .now) (a .end) (p .result) (f .result .now) (p .ensures) (f .ensures) in
+    ap₂ (λ (x k : ℕ). record { letter = x; end = k }) (c .letter .ensures ∙ ap letterOf is) ends
 
 pub letter-at-spec : {M : Type 1} → statement M
 letter-at-spec =

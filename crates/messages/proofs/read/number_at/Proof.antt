@@ -11,11 +11,6 @@ use native.Mathlib.Omega.{arith}
 use borrow.Author.Needs.{needs}
 use Rattle.messages.proofs.read.number_at.Statement.{statement}
 use Rattle.messages.proofs.read.number_at.Tie as tie
-use Rattle.messages.proofs.read.number_at.Reads as reads
-use Rattle.messages.proofs.read.number_at.Lts as lts
-use Rattle.text.proofs.digits.decimal.Reads as decimal-reads
-use Rattle.text.proofs.field.field.Reads as field-reads
-use Rattle.text.proofs.field.place_behind.Reads as place-behind-reads
 
 place-behind-requires : tie.Need-place-behind-requires
 place-behind-requires c κs = search needs
@@ -36,9 +31,11 @@ returns : tie.Need-returns
 returns c = let a = c .before .before .before .before .args in
     let p = c .before .before .place-behind in
     let f = c .before .field in
-    let is = c .decimal .ensures ∙ ap (decimalOf (a .max)) (found (a .t .now) (a .end) (p .result) (f .result .now) (p .ensures) (f .ensures)) in (
-      ap₂ (λ (x : Number) (k : ℕ). record { number = x; end = k }) is (found-end (a .t .now) (a .end) (p .result) (f .result .now) (p .ensures) (f .ensures)),
-      subst (λ (x : Number). x .value ≤ a .max) (sym is) (decimal-below (a .max) (behind (a .t .now) (a .end))),
+    let is = found (a .t .now) (a .end) (p .result) (f .result .now) (p .ensures) (f .ensures) in
+    let ends = found-end (a .t .now) (a .end) (p .result) (f .result .now) (p .ensures) (f .ensures) in
+    let number = c .decimal .ensures ∙ ap (decimalOf (a .max)) is in (
+      ap₂ (λ (x : Number) (k : ℕ). record { number = x; end = k }) number ends,
+      subst (λ (x : Number). x .value ≤ a .max) (sym number) (decimal-below (a .max) (behind (a .t .now) (a .end))),
     )
 
 pub number-at-spec : {M : Type 1} → statement M

@@ -2,12 +2,6 @@ use Rattle.messages.proofs.Reading.{proposal-is}
 use borrow.Author.Needs.{needs}
 use Rattle.messages.proofs.read.proposal_at.Statement.{statement}
 use Rattle.messages.proofs.read.proposal_at.Tie as tie
-use Rattle.messages.proofs.read.proposal_at.Reads as reads
-use Rattle.messages.proofs.read.proposal_at.Lts as lts
-use Rattle.messages.proofs.read.entry_at.Reads as entry-at-reads
-use Rattle.messages.proofs.read.head_at.Reads as head-at-reads
-use Rattle.messages.proofs.read.hex_at.Reads as hex-at-reads
-use Rattle.text.proofs.field.over.Reads as over-reads
 
 head-at-requires : tie.Need-head-at-requires
 head-at-requires c κs = search needs
@@ -23,7 +17,8 @@ over-requires c κs = search needs
 
 returns : tie.Need-returns
 returns c = let k = c .before .before .before .before .before .before .before .before in
-    proposal-is _ _ _ _ (k .before .before .head-at .ensures) (k .before .entry-at .ensures) _ _ (k .hex-at .ensures) (c .over .ensures)
+    proposal-is _ _ _ _ (k .before .before .head-at .ensures) (k .before .entry-at .ensures) _ _
+    (k .hex-at .ensures) (c .over .ensures)
 
 pub proposal-at-spec : {M : Type 1} → statement M
 proposal-at-spec =

@@ -2,12 +2,6 @@ use Rattle.messages.proofs.Reading.{question-is}
 use borrow.Author.Needs.{needs}
 use Rattle.messages.proofs.read.question_at.Statement.{statement}
 use Rattle.messages.proofs.read.question_at.Tie as tie
-use Rattle.messages.proofs.read.question_at.Reads as reads
-use Rattle.messages.proofs.read.question_at.Lts as lts
-use Rattle.messages.proofs.read.entry_at.Reads as entry-at-reads
-use Rattle.messages.proofs.read.head_at.Reads as head-at-reads
-use Rattle.messages.proofs.read.number_at.Reads as number-at-reads
-use Rattle.text.proofs.field.over.Reads as over-reads
 
 head-at-requires : tie.Need-head-at-requires
 head-at-requires c κs = search needs
@@ -26,7 +20,8 @@ cast-t14 c = search needs
 
 returns : tie.Need-returns
 returns c = let k = c .before .before .before .before .before .before .before .before .before in
-    question-is _ _ _ _ (k .before .before .head-at .ensures) (k .before .entry-at .ensures) _ _ (k .number-at .ensures .0) (c .before .over .ensures)
+    question-is _ _ _ _ (k .before .before .head-at .ensures) (k .before .entry-at .ensures) _ _
+    (k .number-at .ensures .0) (c .before .over .ensures)
 
 pub question-at-spec : {M : Type 1} → statement M
 question-at-spec =

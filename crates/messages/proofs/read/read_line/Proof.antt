@@ -11,17 +11,6 @@ use mathlib.Core.Path.{ap, _∙_}
 use borrow.Author.Needs.{needs}
 use Rattle.messages.proofs.read.read_line.Statement.{statement}
 use Rattle.messages.proofs.read.read_line.Tie as tie
-use Rattle.messages.proofs.read.read_line.Reads as reads
-use Rattle.messages.proofs.read.read_line.Lts as lts
-use Rattle.messages.proofs.read.got.Reads as got-reads
-use Rattle.messages.proofs.read.proposal_at.Reads as proposal-at-reads
-use Rattle.messages.proofs.read.question_at.Reads as question-at-reads
-use Rattle.messages.proofs.read.row_at.Reads as row-at-reads
-use Rattle.messages.proofs.read.statement_at.Reads as statement-at-reads
-use Rattle.messages.proofs.read.view_at.Reads as view-at-reads
-use Rattle.text.proofs.digits.letter.Reads as letter-reads
-use Rattle.text.proofs.field.field.Reads as field-reads
-use Rattle.text.proofs.field.over.Reads as over-reads
 
 field-requires : tie.Need-field-requires
 field-requires c κs = search needs
@@ -38,7 +27,8 @@ got-requires c κs = search needs
 returns : tie.Need-returns
 unfolding ofKind
 returns c = let k = c .before .before .before .before in
-    c .got .ensures ∙ ap (λ (y : StatementAt). got (y .good) (Acknowledge (y .statement))) (c .before .before .statement-at .ensures)
+    c .got .ensures
+    ∙ ap (λ (y : StatementAt). got (y .good) (Acknowledge (y .statement))) (c .before .before .statement-at .ensures)
     ∙ kind-is _ _ _ (k .letter .ensures) (k .before .field .ensures) 0x41 (c .before .before .before .if1 .taken)
 
 row-at-requires : tie.Need-row-at-requires
@@ -74,7 +64,8 @@ got-requires-4 c κs = search needs
 returns-4 : tie.Need-returns-4
 unfolding ofKind
 returns-4 c = let k = c .before .before .before .before .before .before .before in
-    c .got4 .ensures ∙ ap (λ (y : StatementAt). got (y .good) (Confirm (y .statement))) (c .before .before .statement-at2 .ensures)
+    c .got4 .ensures
+    ∙ ap (λ (y : StatementAt). got (y .good) (Confirm (y .statement))) (c .before .before .statement-at2 .ensures)
     ∙ kind-is _ _ _ (k .letter .ensures) (k .before .field .ensures) 0x43 (c .before .before .before .if4 .taken)
 
 question-at-requires : tie.Need-question-at-requires
@@ -115,7 +106,8 @@ returns-7 c = let k = c .before .before .before .before .before .before .before 
 
 returns-8 : tie.Need-returns-8
 returns-8 c = let k = c .before .before .before .before .before .before .before in
-    no-kind _ _ _ (k .letter .ensures) (k .before .field .ensures) (c .before .before .before .before .before .before .if1 .left) (c .before .before .before .before .before .if2 .left) (c .before .before .before .before .if3 .left)
+    no-kind _ _ _ (k .letter .ensures) (k .before .field .ensures)
+    (c .before .before .before .before .before .before .if1 .left) (c .before .before .before .before .before .if2 .left) (c .before .before .before .before .if3 .left)
     (c .before .before .before .if4 .left) (c .before .before .if5 .left) (c .before .if6 .left) (c .if7 .left)
 
 pub read-line-spec : {M : Type 1} → statement M

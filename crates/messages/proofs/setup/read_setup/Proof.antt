@@ -2,14 +2,6 @@ use Rattle.messages.proofs.ReadingSetup.{setup-read, setup-none}
 use borrow.Author.Needs.{needs}
 use Rattle.messages.proofs.setup.read_setup.Statement.{statement}
 use Rattle.messages.proofs.setup.read_setup.Tie as tie
-use Rattle.messages.proofs.setup.read_setup.Reads as reads
-use Rattle.messages.proofs.setup.read_setup.Lts as lts
-use Rattle.messages.proofs.read.entry_at.Reads as entry-at-reads
-use Rattle.messages.proofs.read.letter_at.Reads as letter-at-reads
-use Rattle.messages.proofs.read.number_at.Reads as number-at-reads
-use Rattle.text.proofs.digits.letter.Reads as letter-reads
-use Rattle.text.proofs.field.field.Reads as field-reads
-use Rattle.text.proofs.field.over.Reads as over-reads
 
 field-requires : tie.Need-field-requires
 field-requires c κs = search needs
@@ -45,14 +37,20 @@ cast-t26 : tie.Need-cast-t26
 cast-t26 c = search needs
 
 returns : tie.Need-returns
-returns c = let k = c .before .before .before .before .before .before .before .before .before .before .before .before .before .before .before in
-    setup-read _ _ _ _ _ _ _ _ _ (k .before .before .before .before .before .before .field .ensures) (k .before .before .before .before .before .letter .ensures) (k .before .before .before .before .number-at .ensures .0) (k .before .before .before .number-at2 .ensures .0)
+returns c =
+    let j = c .before .before .before .before .before .before .before in
+    let k = j .before .before .before .before .before .before .before .before in
+    setup-read _ _ _ _ _ _ _ _ _ (k .before .before .before .before .before .before .field .ensures)
+    (k .before .before .before .before .before .letter .ensures)
+    (k .before .before .before .before .number-at .ensures .0) (k .before .before .before .number-at2 .ensures .0)
     (k .before .before .letter-at .ensures) (k .before .number-at3 .ensures .0) (k .entry-at .ensures)
     (c .before .before .before .before .before .over .ensures) (c .before .before .before .before .if1 .taken)
 
 returns-2 : tie.Need-returns-2
 returns-2 c = let k = c .before .before .before .before .before .before .before .before .before .before .before in
-    setup-none _ _ _ _ _ _ _ _ _ (k .before .before .before .before .before .before .field .ensures) (k .before .before .before .before .before .letter .ensures) (k .before .before .before .before .number-at .ensures .0) (k .before .before .before .number-at2 .ensures .0)
+    setup-none _ _ _ _ _ _ _ _ _ (k .before .before .before .before .before .before .field .ensures)
+    (k .before .before .before .before .before .letter .ensures)
+    (k .before .before .before .before .number-at .ensures .0) (k .before .before .before .number-at2 .ensures .0)
     (k .before .before .letter-at .ensures) (k .before .number-at3 .ensures .0) (k .entry-at .ensures)
     (c .before .over .ensures) (c .if1 .left)
 

@@ -5,9 +5,6 @@ use Rattle.messages.specs.Lengths.{head-takes}
 use borrow.Author.Needs.{needs}
 use Rattle.messages.proofs.write.head_length.Statement.{statement}
 use Rattle.messages.proofs.write.head_length.Tie as tie
-use Rattle.messages.proofs.write.head_length.Reads as reads
-use Rattle.messages.proofs.write.head_length.Lts as lts
-use Rattle.text.proofs.put.width.Reads as width-reads
 
 cast-width : tie.Need-cast-width
 cast-width c = search needs

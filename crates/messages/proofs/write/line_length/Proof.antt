@@ -8,12 +8,6 @@ use Rattle.messages.proofs.Writing.{statement-takes, proposal-takes, qu
 use borrow.Author.Needs.{needs}
 use Rattle.messages.proofs.write.line_length.Statement.{statement}
 use Rattle.messages.proofs.write.line_length.Tie as tie
-use Rattle.messages.proofs.write.line_length.Reads as reads
-use Rattle.messages.proofs.write.line_length.Lts as lts
-use Rattle.messages.proofs.write.head_length.Reads as head-length-reads
-use Rattle.messages.proofs.write.row_head.Reads as row-head-reads
-use Rattle.messages.proofs.write.vote_length.Reads as vote-length-reads
-use Rattle.text.proofs.put.width.Reads as width-reads
 
 enum-told : tie.Need-enum-told
 enum-told c = search needs

@@ -1,7 +1,5 @@
 use Rattle.messages.proofs.write.mark_byte.Statement.{statement}
 use Rattle.messages.proofs.write.mark_byte.Tie as tie
-use Rattle.messages.proofs.write.mark_byte.Reads as reads
-use Rattle.messages.proofs.write.mark_byte.Lts as lts
 
 returns : tie.Need-returns
 returns c = simp (c .if1 .taken)

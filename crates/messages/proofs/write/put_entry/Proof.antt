@@ -4,10 +4,6 @@ use Rattle.messages.proofs.Writing.{field-put}
 use borrow.Author.Needs.{needs}
 use Rattle.messages.proofs.write.put_entry.Statement.{statement}
 use Rattle.messages.proofs.write.put_entry.Tie as tie
-use Rattle.messages.proofs.write.put_entry.Reads as reads
-use Rattle.messages.proofs.write.put_entry.Lts as lts
-use Rattle.entry.proofs.hex.put_text.Reads as put-text-reads
-use Rattle.text.proofs.put.put_byte.Reads as put-byte-reads
 
 put-byte-requires : tie.Need-put-byte-requires
 put-byte-requires c κs = search needs

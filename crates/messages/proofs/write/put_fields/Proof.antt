@@ -4,13 +4,6 @@ use Rattle.messages.proofs.Writing.{told-put}
 use borrow.Author.Needs.{needs}
 use Rattle.messages.proofs.write.put_fields.Statement.{statement}
 use Rattle.messages.proofs.write.put_fields.Tie as tie
-use Rattle.messages.proofs.write.put_fields.Reads as reads
-use Rattle.messages.proofs.write.put_fields.Lts as lts
-use Rattle.messages.proofs.write.put_number.Reads as put-number-reads
-use Rattle.messages.proofs.write.put_proposal.Reads as put-proposal-reads
-use Rattle.messages.proofs.write.put_question.Reads as put-question-reads
-use Rattle.messages.proofs.write.put_row.Reads as put-row-reads
-use Rattle.messages.proofs.write.put_statement.Reads as put-statement-reads
 
 enum-told : tie.Need-enum-told
 enum-told c = search needs

@@ -4,10 +4,6 @@ use Rattle.text.specs.PutLaws.{tabs}
 use borrow.Author.Needs.{needs}
 use Rattle.messages.proofs.write.put_head.Statement.{statement}
 use Rattle.messages.proofs.write.put_head.Tie as tie
-use Rattle.messages.proofs.write.put_head.Reads as reads
-use Rattle.messages.proofs.write.put_head.Lts as lts
-use Rattle.messages.proofs.write.put_mark.Reads as put-mark-reads
-use Rattle.messages.proofs.write.put_number.Reads as put-number-reads
 
 cast-put-number : tie.Need-cast-put-number
 cast-put-number c = search needs

@@ -2,11 +2,6 @@ use Rattle.messages.proofs.Writing.{line-put}
 use borrow.Author.Needs.{needs}
 use Rattle.messages.proofs.write.put_line.Statement.{statement}
 use Rattle.messages.proofs.write.put_line.Tie as tie
-use Rattle.messages.proofs.write.put_line.Reads as reads
-use Rattle.messages.proofs.write.put_line.Lts as lts
-use Rattle.messages.proofs.write.kind_of.Reads as kind-of-reads
-use Rattle.messages.proofs.write.put_fields.Reads as put-fields-reads
-use Rattle.text.proofs.put.put_byte.Reads as put-byte-reads
 
 kind-of-requires : tie.Need-kind-of-requires
 kind-of-requires c κs = search needs

@@ -8,10 +8,6 @@ use Rattle.messages.proofs.Writing.{field-put}
 use borrow.Author.Needs.{needs}
 use Rattle.messages.proofs.write.put_mark.Statement.{statement}
 use Rattle.messages.proofs.write.put_mark.Tie as tie
-use Rattle.messages.proofs.write.put_mark.Reads as reads
-use Rattle.messages.proofs.write.put_mark.Lts as lts
-use Rattle.messages.proofs.write.mark_byte.Reads as mark-byte-reads
-use Rattle.text.proofs.put.put_byte.Reads as put-byte-reads
 
 put-byte-requires : tie.Need-put-byte-requires
 put-byte-requires c κs = search needs

@@ -4,10 +4,6 @@ use Rattle.messages.proofs.Writing.{field-put}
 use borrow.Author.Needs.{needs}
 use Rattle.messages.proofs.write.put_mask.Statement.{statement}
 use Rattle.messages.proofs.write.put_mask.Tie as tie
-use Rattle.messages.proofs.write.put_mask.Reads as reads
-use Rattle.messages.proofs.write.put_mask.Lts as lts
-use Rattle.text.proofs.put.put_byte.Reads as put-byte-reads
-use Rattle.text.proofs.put.put_hex.Reads as put-hex-reads
 
 put-byte-requires : tie.Need-put-byte-requires
 put-byte-requires c κs = search needs

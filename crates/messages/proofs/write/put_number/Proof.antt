@@ -4,10 +4,6 @@ use Rattle.messages.proofs.Writing.{field-put}
 use borrow.Author.Needs.{needs}
 use Rattle.messages.proofs.write.put_number.Statement.{statement}
 use Rattle.messages.proofs.write.put_number.Tie as tie
-use Rattle.messages.proofs.write.put_number.Reads as reads
-use Rattle.messages.proofs.write.put_number.Lts as lts
-use Rattle.text.proofs.put.put_byte.Reads as put-byte-reads
-use Rattle.text.proofs.put.put_decimal.Reads as put-decimal-reads
 
 put-byte-requires : tie.Need-put-byte-requires
 put-byte-requires c κs = search needs

@@ -6,11 +6,6 @@ use Rattle.text.specs.PutLaws.{tabs}
 use borrow.Author.Needs.{needs}
 use Rattle.messages.proofs.write.put_proposal.Statement.{statement}
 use Rattle.messages.proofs.write.put_proposal.Tie as tie
-use Rattle.messages.proofs.write.put_proposal.Reads as reads
-use Rattle.messages.proofs.write.put_proposal.Lts as lts
-use Rattle.messages.proofs.write.put_entry.Reads as put-entry-reads
-use Rattle.messages.proofs.write.put_head.Reads as put-head-reads
-use Rattle.messages.proofs.write.put_mask.Reads as put-mask-reads
 
 put-head-requires : tie.Need-put-head-requires
 put-head-requires c κs = search needs

@@ -6,11 +6,6 @@ use Rattle.text.specs.PutLaws.{tabs}
 use borrow.Author.Needs.{needs}
 use Rattle.messages.proofs.write.put_question.Statement.{statement}
 use Rattle.messages.proofs.write.put_question.Tie as tie
-use Rattle.messages.proofs.write.put_question.Reads as reads
-use Rattle.messages.proofs.write.put_question.Lts as lts
-use Rattle.messages.proofs.write.put_entry.Reads as put-entry-reads
-use Rattle.messages.proofs.write.put_head.Reads as put-head-reads
-use Rattle.messages.proofs.write.put_number.Reads as put-number-reads
 
 put-head-requires : tie.Need-put-head-requires
 put-head-requires c κs = search needs

@@ -7,11 +7,6 @@ use Rattle.text.specs.PutLaws.{become, tabs}
 use borrow.Author.Needs.{needs}
 use Rattle.messages.proofs.write.put_row.Statement.{statement}
 use Rattle.messages.proofs.write.put_row.Tie as tie
-use Rattle.messages.proofs.write.put_row.Reads as reads
-use Rattle.messages.proofs.write.put_row.Lts as lts
-use Rattle.messages.proofs.write.put_head.Reads as put-head-reads
-use Rattle.messages.proofs.write.put_vote.Reads as put-vote-reads
-use Rattle.messages.proofs.write.row_head.Reads as row-head-reads
 
 row-head-requires : tie.Need-row-head-requires
 row-head-requires c κs = search needs

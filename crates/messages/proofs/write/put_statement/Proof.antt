@@ -5,10 +5,6 @@ use Rattle.text.specs.PutLaws.{tabs}
 use borrow.Author.Needs.{needs}
 use Rattle.messages.proofs.write.put_statement.Statement.{statement}
 use Rattle.messages.proofs.write.put_statement.Tie as tie
-use Rattle.messages.proofs.write.put_statement.Reads as reads
-use Rattle.messages.proofs.write.put_statement.Lts as lts
-use Rattle.messages.proofs.write.put_entry.Reads as put-entry-reads
-use Rattle.messages.proofs.write.put_head.Reads as put-head-reads
 
 put-head-requires : tie.Need-put-head-requires
 put-head-requires c κs = search needs

@@ -10,12 +10,6 @@ use Rattle.text.specs.PutLaws.{become, tabs}
 use borrow.Author.Needs.{needs}
 use Rattle.messages.proofs.write.put_vote.Statement.{statement}
 use Rattle.messages.proofs.write.put_vote.Tie as tie
-use Rattle.messages.proofs.write.put_vote.Reads as reads
-use Rattle.messages.proofs.write.put_vote.Lts as lts
-use Rattle.messages.proofs.write.put_entry.Reads as put-entry-reads
-use Rattle.messages.proofs.write.put_mark.Reads as put-mark-reads
-use Rattle.messages.proofs.write.put_mask.Reads as put-mask-reads
-use Rattle.messages.proofs.write.put_number.Reads as put-number-reads
 
 put-mark-requires : tie.Need-put-mark-requires
 put-mark-requires c κs = search needs

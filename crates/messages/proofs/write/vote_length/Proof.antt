@@ -12,9 +12,6 @@ use Rattle.messages.specs.Lengths.{vote-takes}
 use borrow.Author.Needs.{needs}
 use Rattle.messages.proofs.write.vote_length.Statement.{statement}
 use Rattle.messages.proofs.write.vote_length.Tie as tie
-use Rattle.messages.proofs.write.vote_length.Reads as reads
-use Rattle.messages.proofs.write.vote_length.Lts as lts
-use Rattle.text.proofs.put.width.Reads as width-reads
 
 returns : tie.Need-returns
 returns c = let x = c .before .before .args .x in

@@ -5,10 +5,6 @@ use Rattle.messages.proofs.Writing.{question-writable}
 use borrow.Author.Needs.{needs}
 use Rattle.messages.proofs.write.writable.Statement.{statement}
 use Rattle.messages.proofs.write.writable.Tie as tie
-use Rattle.messages.proofs.write.writable.Reads as reads
-use Rattle.messages.proofs.write.writable.Lts as lts
-use Rattle.messages.proofs.write.row_head.Reads as row-head-reads
-use Rattle.messages.proofs.write.seated.Reads as seated-reads
 
 enum-told : tie.Need-enum-told
 enum-told c = search needs

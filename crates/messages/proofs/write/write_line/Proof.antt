@@ -4,11 +4,6 @@ use Rattle.messages.proofs.Writing.{answers-0, answers-20, answers-21}
 use borrow.Author.Needs.{needs}
 use Rattle.messages.proofs.write.write_line.Statement.{statement}
 use Rattle.messages.proofs.write.write_line.Tie as tie
-use Rattle.messages.proofs.write.write_line.Reads as reads
-use Rattle.messages.proofs.write.write_line.Lts as lts
-use Rattle.messages.proofs.write.line_length.Reads as line-length-reads
-use Rattle.messages.proofs.write.put_line.Reads as put-line-reads
-use Rattle.messages.proofs.write.writable.Reads as writable-reads
 
 writable-requires : tie.Need-writable-requires
 writable-requires c κs = search needs

@@ -64,7 +64,8 @@ loop-again c =
     let x = c .before .is-hex in
     let d = c .nibble in
     let step = hex-step (l .good) (l .v) t (l .i) (search needs) (d .result) (d .ensures .1) in
-    let kept : (l .good && x .result) ≡ (l .good && not (eqb (hexDigit (getD t (l .i) 0)) 16)) = ap (λ (b : Bool). l .good && b) (x .ensures) in
+    let still = not (eqb (hexDigit (getD t (l .i) 0)) 16) in
+    let kept : (l .good && x .result) ≡ (l .good && still) = ap (λ (b : Bool). l .good && b) (x .ensures) in
     let rest = valueFrom 16 hexDigit (16 * l .v + d .result) (drop (l .i + 1) t) in (
       omega arith,
       (

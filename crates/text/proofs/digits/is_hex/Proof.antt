@@ -5,9 +5,6 @@ use mathlib.Core.Path.{ap, _∙_}
 use borrow.Author.Needs.{needs}
 use Rattle.text.proofs.digits.is_hex.Statement.{statement}
 use Rattle.text.proofs.digits.is_hex.Tie as tie
-use Rattle.text.proofs.digits.is_hex.Reads as reads
-use Rattle.text.proofs.digits.is_hex.Lts as lts
-use Rattle.text.proofs.digits.is_letter.Reads as is-letter-reads
 
 is-letter-requires : tie.Need-is-letter-requires
 is-letter-requires c κs = search needs

@@ -10,9 +10,6 @@ use Prim.Native.Nat.{ℕ, _+_, _*_, _%_, _<_}
 use borrow.Author.Needs.{needs}
 use Rattle.text.proofs.digits.nibble.Statement.{statement}
 use Rattle.text.proofs.digits.nibble.Tie as tie
-use Rattle.text.proofs.digits.nibble.Reads as reads
-use Rattle.text.proofs.digits.nibble.Lts as lts
-use Rattle.text.proofs.digits.is_letter.Reads as is-letter-reads
 
 small : (x : ℕ) → x % 16 < 16
 small x = mod-lt x (lit< tt)

@@ -8,9 +8,6 @@ use native.Mathlib.Omega.{arith}
 use borrow.Author.Needs.{needs}
 use Rattle.text.proofs.field.field.Statement.{statement}
 use Rattle.text.proofs.field.field.Tie as tie
-use Rattle.text.proofs.field.field.Reads as reads
-use Rattle.text.proofs.field.field.Lts as lts
-use Rattle.text.proofs.field.field_end.Reads as field-end-reads
 
 sub-result : tie.Need-sub-result
 sub-result c = search needs
@@ -41,7 +38,8 @@ part-result-end-2 c = let a = c .before .before .before .args in
 
 returns-2 : tie.Need-returns-2
 returns-2 c = let a = c .before .before .before .before .args in
-    let wide : c .before .field-end .result - a .from ≡ length (fieldAt (a .s .now) (a .from)) = omega (arith, c .before .field-end .ensures) in
+    let e = c .before .field-end in
+    let wide : e .result - a .from ≡ length (fieldAt (a .s .now) (a .from)) = omega (arith, e .ensures) in
     ap (λ (x : ℕ). take x (drop (a .from) (a .s .now))) wide ∙ up-take (drop (a .from) (a .s .now))
 
 pub field-spec : {M : Type 1} → statement M

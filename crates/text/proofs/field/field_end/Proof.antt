@@ -8,8 +8,6 @@ use native.Mathlib.Omega.{arith}
 use borrow.Author.Needs.{needs}
 use Rattle.text.proofs.field.field_end.Statement.{statement}
 use Rattle.text.proofs.field.field_end.Tie as tie
-use Rattle.text.proofs.field.field_end.Reads as reads
-use Rattle.text.proofs.field.field_end.Lts as lts
 
 abbrev Inv-loop : tie.InvT-loop
 Inv-loop s from i₀ i = i + length (fieldAt s i) ≡ from + length (fieldAt s from)
@@ -38,7 +36,8 @@ loop-again c = let l = c .before .before .before .before .loop in
 
 returns : tie.Need-returns Inv-loop μ-loop
 returns c = let l = c .before .loop in
-    sym (ap (λ (f : List ℕ). l .i + length f) (field-out (c .before .before .args .s .now) (l .i) (c .if1 .taken)) ∙ omega arith) ∙ l .inv
+    let none = field-out (c .before .before .args .s .now) (l .i) (c .if1 .taken) in
+    sym (ap (λ (f : List ℕ). l .i + length f) none ∙ omega arith) ∙ l .inv
 
 returns-2 : tie.Need-returns-2 Inv-loop μ-loop
 returns-2 c = let l = c .before .before .before .before .loop in

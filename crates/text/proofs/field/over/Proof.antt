@@ -5,8 +5,6 @@ use native.Mathlib.Omega.{arith}
 use borrow.Author.Needs.{needs}
 use Rattle.text.proofs.field.over.Statement.{statement}
 use Rattle.text.proofs.field.over.Tie as tie
-use Rattle.text.proofs.field.over.Reads as reads
-use Rattle.text.proofs.field.over.Lts as lts
 
 returns : tie.Need-returns
 returns c = simp (le-ltb (c .before .args .end) (length (c .before .args .s .now)) (c .if1 .taken))

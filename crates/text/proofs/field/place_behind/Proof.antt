@@ -4,8 +4,6 @@ use native.Mathlib.Omega.{arith}
 use borrow.Author.Needs.{needs}
 use Rattle.text.proofs.field.place_behind.Statement.{statement}
 use Rattle.text.proofs.field.place_behind.Tie as tie
-use Rattle.text.proofs.field.place_behind.Reads as reads
-use Rattle.text.proofs.field.place_behind.Lts as lts
 
 returns : tie.Need-returns
 returns c = simp (le-ltb (c .before .args .end) (length (c .before .args .s .now)) (c .if1 .taken))

@@ -5,8 +5,6 @@ use native.Mathlib.Omega.{arith}
 use borrow.Author.Needs.{needs}
 use Rattle.text.proofs.put.hex_char.Statement.{statement}
 use Rattle.text.proofs.put.hex_char.Tie as tie
-use Rattle.text.proofs.put.hex_char.Reads as reads
-use Rattle.text.proofs.put.hex_char.Lts as lts
 
 add-result : tie.Need-add-result
 add-result c = search needs
