@@ -1,14 +1,15 @@
 -- The writer: how long a line is, its fields one after the other, and what becomes of the lent buffer.
-use Prim.Native.Nat.{ℕ, _+_, _<_, _≤_}
-use mathlib.Core.Path.{_≡_, refl, sym, ap, _∙_}
-use mathlib.Core.Bool.{Bool, true, false, _&&_}
+use Prim.Native.Nat.{ℕ, _+_, _≤_}
+use mathlib.Core.Path.{_≡_, refl, sym, ap, ap₂, _∙_}
+use mathlib.Core.Bool.{Bool, true, false, not, _&&_, cond}
 use mathlib.Core.List.{List, [], _∷_, _++_}
 use native.Mathlib.Omega.{arith}
 use native.Mathlib.Nat.{zero-add}
-use lib.Dec.{leb}
+use lib.Dec.{ltb, leb}
 use lib.ListN.{length, drop}
 use lib.Seq.{sets-eq}
-use borrow.Author.Tests.{lt-ltb, le-ltb}
+use borrow.Author.Tests.{ltb-false, eq-eqb, ne-eqb}
+use Rattle.base.specs.Refusal.{first}
 use Rattle.text.specs.Digits.{decimal, wordDigits, hex, width}
 use Rattle.text.specs.Fields.{tab, lf, tabbed}
 use Rattle.text.specs.Put.{placed, Puts}
@@ -25,7 +26,7 @@ use Rattle.messages.specs.declared.Statement.{Statement}
 use Rattle.messages.specs.declared.write.Written.{Written}
 use Rattle.messages.specs.Lengths.{number-takes, mask-takes, entry-takes, head-takes, line-takes}
 use Rattle.messages.specs.Lines.{head, vote, rowHead, kind, fields, line, topCount}
-use Rattle.messages.specs.Writer.{seated, writable, written, lent, afterwards}
+use Rattle.messages.specs.Writer.{seated, writable, writerNumber, written, lent, afterwards}
 
 -- ---- how long a line is
 
@@ -102,27 +103,45 @@ line-put b m k c end d e is one two three room =
     let before = put-then b 0 (kind m ∷ []) 1 c text end d first two in
     front b (line m) (end + 1) e (put-then b 0 (kind m ∷ text) end d (lf ∷ []) (end + 1) e before last) room
 
+-- ---- the number
+
+-- 21 first or 20 first: they do not apply together.
+pub number-order : (can short : Bool) → cond (not can) 21 (cond short 20 0) ≡ first ((20, can && short) ∷ (21, not can) ∷ [])
+number-order true true = refl
+number-order true false = refl
+number-order false short = refl
+
+pub number-is : (buf : List ℕ) (m : Message) (can : Bool) (n r : ℕ) → can ≡ writable m → n ≡ length (line m)
+    → r ≡ first ((20, can && ltb (length buf) n) ∷ (21, not can) ∷ []) → r ≡ writerNumber buf m
+number-is buf m can n r w e h =
+    h ∙ ap₂ (λ (b : Bool) (k : ℕ). first ((20, b && ltb (length buf) k) ∷ (21, not b) ∷ [])) w e
+
+-- Where it is 0 the line has room.
+pub number-room : (buf : List ℕ) (m : Message) → writerNumber buf m ≡ 0 → length (line m) ≤ length buf
+number-room buf m z = go (writable m) (ltb (length buf) (length (line m))) refl z
+  where
+    go : (can short : Bool) → ltb (length buf) (length (line m)) ≡ short → first ((20, can && short) ∷ (21, not can) ∷ []) ≡ 0
+        → length (line m) ≤ length buf
+    go true true h z = absurd (omega arith)
+    go true false h z = ltb-false (length buf) (length (line m)) h
+    go false short h z = absurd (omega arith)
+
 -- What the writer answers, and the buffer.
 abbrev Answers : List ℕ → Message → Written → List ℕ → Type 0
 Answers buf m r after = (r ≡ written buf m) × (after ≡ afterwards buf m)
 
--- No line.
-pub answers-21 : (buf : List ℕ) (m : Message) → writable m ≡ false → Answers buf m (record { number = 21; length = 0 }) buf
+-- It refuses.
+pub answers-refused : (buf : List ℕ) (m : Message) (r : ℕ) → r ≡ writerNumber buf m → (r ≡ 0 → ⊥)
+    → Answers buf m (record { number = r; length = 0 }) buf
 unfolding written afterwards
-answers-21 buf m w = (simp w, simp w)
-
--- No room for it.
-pub answers-20 : (buf : List ℕ) (m : Message) (n : ℕ) → writable m ≡ true → n ≡ length (line m) → length buf < n
-    → Answers buf m (record { number = 20; length = 0 }) buf
-unfolding written afterwards
-answers-20 buf m n w e h =
-    let short = lt-ltb (length buf) (length (line m)) (omega arith) in
-    (simp (w, short), simp (w, short))
+answers-refused buf m r e ne =
+    let not-0 = ne-eqb (writerNumber buf m) 0 (λ z. ne (e ∙ z)) in
+    (simp not-0 (ap (λ (k : ℕ). record { number = k; length = 0 }) e), simp not-0)
 
 -- The line was put.
-pub answers-0 : (buf : List ℕ) (m : Message) (n : ℕ) (after : List ℕ) → writable m ≡ true → n ≡ length (line m) → n ≤ length buf
+pub answers-0 : (buf : List ℕ) (m : Message) (n : ℕ) (after : List ℕ) → writerNumber buf m ≡ 0 → n ≡ length (line m)
     → after ≡ lent buf (line m) → Answers buf m (record { number = 0; length = n }) after
 unfolding written afterwards
-answers-0 buf m n after w e h a =
-    let fits = le-ltb (length buf) (length (line m)) (omega arith) in
-    (simp (w, fits) (ap (λ (k : ℕ). record { number = 0; length = k }) e), simp (w, fits) a)
+answers-0 buf m n after z e a =
+    let is-0 = eq-eqb (writerNumber buf m) 0 z in
+    (simp is-0 (ap₂ (λ (k l : ℕ). record { number = k; length = l }) (sym z) e), simp is-0 a)

@@ -1,8 +1,11 @@
 // The writer: the length first, so that a line that does not fit touches no byte; then field by field, in place.
 ghost use mathlib.Core.Path.{_≡_};
-ghost use mathlib.Core.List.{[], _∷_, _++_};
+ghost use mathlib.Core.Bool.{not, _&&_};
+ghost use mathlib.Core.List.{[], _∷_};
 ghost use Prim.Native.Nat.{_≤_, _+_};
+ghost use lib.Dec.{ltb};
 ghost use lib.ListN.{length};
+ghost use Rattle.base.specs.Refusal.{first};
 ghost use Rattle.text.specs.Digits.{decimal, hex};
 ghost use Rattle.text.specs.Fields.{tabbed, lineOf};
 ghost use Rattle.text.specs.Put.{Puts};
@@ -26,6 +29,7 @@ use crate::START;
 use crate::Statement;
 use crate::TOP_COUNT;
 use crate::TOP_SEAT;
+use base::pick;
 use entry::Entry;
 use entry::hex::DIGITS;
 use entry::hex::put_text;
@@ -251,20 +255,22 @@ fn put_line(s: &mut [u8], m: Message)
     put_byte(s, end, LF);
 }
 
+// 21 first: a message with no line is not one that is too long.
+fn writer_number(can: bool, room: usize, n: usize) -> u8
+    ensures { λ r. ⌜ r ≡ first ((20, can && ltb room n) ∷ (21, not can) ∷ []) ⌝ }
+{
+    pick(!can, 21, pick(room < n, 20, 0))
+}
+
 // The line of m at the front of buf. Where m has none (21), or it does not fit (20), no byte is touched.
 pub fn write_line(buf: &mut [u8], m: Message) -> Written
     ensures { λ r. ⌜ (r ≡ written (now (buf .entry)) m) × (now (buf .exit) ≡ afterwards (now (buf .entry)) m) ⌝ }
 {
-    if !writable(m) {
-        return Written {
-            number: 21,
-            length: 0,
-        };
-    }
     let n = line_length(m);
-    if buf.len() < n {
+    let number = writer_number(writable(m), buf.len(), n);
+    if number != 0 {
         return Written {
-            number: 20,
+            number: number,
             length: 0,
         };
     }
