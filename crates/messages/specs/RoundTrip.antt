@@ -1,13 +1,14 @@
 -- Reader and writer belong together: what was written reads back, and what reads was written.
-use Prim.Native.Nat.{ℕ, _<_, _≤_}
+use Prim.Native.Nat.{ℕ, _+_, _<_, _≤_}
 use mathlib.Core.Path.{_≡_, refl, sym, ap, ap₂, _∙_}
 use mathlib.Core.Bool.{Bool, true, false, not, _&&_, cond}
 use mathlib.Core.List.{List, [], _∷_}
 use native.Mathlib.Omega.{arith}
-use lib.Dec.{eqb, ltb, leb}
+use native.Mathlib.Nat.{le-trans}
+use lib.Dec.{eqb, ltb, leb, lit<, lit≤}
 use lib.ListN.{length, take, drop}
 use lib.Seq.{take-append-seam}
-use borrow.Author.Tests.{leb-true}
+use borrow.Author.Tests.{leb-true, le-ltb}
 use Rattle.base.specs.Refusal.{first}
 use Rattle.base.specs.Tests.{and-true}
 use Rattle.base.specs.Unique.{OneAnswer}
@@ -20,6 +21,7 @@ use Rattle.messages.specs.declared.read.Line.{Line}
 use Rattle.messages.specs.declared.read.Line.the-variants.{Read, Malformed}
 use Rattle.messages.specs.Lines.{rowHead, line, tidy, Reads, lineNumber}
 use Rattle.messages.specs.Lines.{topSeat, topView, topCount, FitsHead, FitsVote, FitsCast, Fits, IsMask}
+use Rattle.messages.specs.Longest.{longestLine, longest, longestVote}
 use Rattle.messages.specs.Reader.{readLine}
 use Rattle.messages.specs.ReadBack.{written-reads-back}
 use Rattle.messages.specs.ReadExact.{read-was-written}
@@ -101,3 +103,21 @@ wrote-reads-back buf m t z =
     ap₂ (λ (k : ℕ) (l : List ℕ). readLine (take k l)) size after
     ∙ ap readLine (take-append-seam text (drop (length text) buf))
     ∙ written-reads-back m (fits m t writes)
+
+-- A buffer with room for the longest line has room for every line.
+pub longest-room : (buf : List ℕ) (m : Message) → Typed m → writable m ≡ true → longestLine + 1 ≤ length buf → written buf m .number ≡ 0
+unfolding written
+longest-room buf m t w h =
+    let room = le-ltb (length buf) (length (line m)) (le-trans (longest m (fits m t w)) h) in
+    simp (w, room)
+
+-- The longest vote meets these premises.
+pub longest-typed : Typed longestVote × (writable longestVote ≡ true)
+unfolding writable
+longest-typed = (
+  (
+    record { seat = lit< tt; view = lit≤ tt },
+    record { view = lit≤ tt; entry = record { hi = lit< tt; lo = lit< tt }; mask = lit< tt },
+  ),
+  refl,
+)

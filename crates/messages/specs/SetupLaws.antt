@@ -4,7 +4,7 @@ use mathlib.Core.Path.{_≡_, refl, sym, ap, _∙_, subst}
 use mathlib.Core.Bool.{Bool, true, false, _&&_, _||_, cond}
 use mathlib.Core.List.{List, [], _∷_}
 use native.Mathlib.Omega.{arith}
-use lib.Dec.{eqb, lit<}
+use lib.Dec.{eqb, lit<, lit≤}
 use borrow.Author.Tests.{eqb-true, eq-eqb}
 use Rattle.base.specs.Tests.{true≢false, and-true, or-alone, or-r}
 use Rattle.base.specs.Unique.{OneAnswer}
@@ -14,6 +14,7 @@ use Rattle.text.specs.Digits.{decimal, decDigit, plain, decimalOf, letterOf}
 use Rattle.text.specs.declared.Number.{Number}
 use Rattle.text.specs.FieldLaws.{Ahead, over-reads, over-exact, kind-reads, kind-exact}
 use Rattle.text.specs.Fields.{fieldAt, behind, endBehind, over}
+use Rattle.entry.specs.Entry.{ofWords}
 use Rattle.entry.specs.Hex.{entryText}
 use Rattle.messages.specs.declared.setup.Setup.{Setup}
 use Rattle.messages.specs.declared.setup.Opening.{Opening}
@@ -174,3 +175,29 @@ setup-only l Malformed a = go (readSetup l) refl
 
 pub setup-unique : (l : List ℕ) → OneAnswer (ReadsSetup l)
 setup-unique l r s a b = setup-only l r a ∙ sym (setup-only l s b)
+
+-- ---- an H that fits, with its f, and one with a dash: that of 01's case T
+abbrev pub caseT : Bool → Setup
+caseT dashed = record {
+  n = 4;
+  f = cond dashed 0 1;
+  dash = dashed;
+  seat = record { 0 = 0 };
+  entry = ofWords 0x4131202020202020 0x2020202000000001;
+}
+
+pub case-t-fits : (dashed : Bool) → FitsSetup (caseT dashed)
+case-t-fits true = record {
+  n = lit≤ tt;
+  f = lit≤ tt;
+  seat = lit≤ tt;
+  entry = record { hi = lit< tt; lo = lit< tt };
+  unused = λ d. refl;
+}
+case-t-fits false = record {
+  n = lit≤ tt;
+  f = lit≤ tt;
+  seat = lit≤ tt;
+  entry = record { hi = lit< tt; lo = lit< tt };
+  unused = λ d. true≢false (sym d);
+}

@@ -45,6 +45,9 @@ pub enum Message {
     Confirm(Statement),
 }
 
+// The longest line, its LF counted: a buffer of this length takes every message that has a line.
+pub const LONGEST: usize = 81;
+
 // The first field of a line.
 const START: u8 = b'S';
 

@@ -21,7 +21,6 @@ use crate::Statement;
 use crate::TOP_COUNT;
 use crate::TOP_SEAT;
 use crate::TOP_VIEW;
-use entry::Entry;
 use entry::hex::EntryField;
 use entry::hex::read_entry;
 use entry::zero;

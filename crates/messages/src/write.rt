@@ -7,7 +7,7 @@ ghost use lib.Dec.{ltb};
 ghost use lib.ListN.{length};
 ghost use Rattle.base.specs.Refusal.{first};
 ghost use Rattle.text.specs.Digits.{decimal, hex};
-ghost use Rattle.text.specs.Fields.{tabbed, lineOf};
+ghost use Rattle.text.specs.Fields.{tabbed};
 ghost use Rattle.text.specs.Put.{Puts};
 ghost use Rattle.entry.specs.Hex.{entryText};
 ghost use Rattle.messages.specs.declared.Message.the-variants.{Propose, Acknowledge, Cast, Request};

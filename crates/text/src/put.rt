@@ -1,8 +1,7 @@
 // Bytes put into lent memory at a place: whole, or not at all where they have no room.
 ghost use mathlib.Core.Path.{_≡_};
 ghost use mathlib.Core.List.{[], _∷_};
-ghost use Prim.Native.Nat.{_≤_, _<_};
-ghost use lib.ListN.{length};
+ghost use Prim.Native.Nat.{_<_};
 ghost use Rattle.text.specs.Digits.{hexChar, hex, decimal, width};
 ghost use Rattle.text.specs.Put.{placed, room};
 use crate::WORD;
