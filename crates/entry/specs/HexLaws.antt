@@ -14,7 +14,7 @@ use Rattle.text.specs.Digits.{digits, hexChar, hex, hexOf, wordDigits}
 use Rattle.text.specs.DigitLaws.{more-off}
 use Rattle.text.specs.HexLaws.{hex-length, hex-reads, hex-exact}
 use Rattle.entry.specs.declared.Entry.{Entry}
-use Rattle.entry.specs.Entry.{lowBytes, wordBytes}
+use Rattle.entry.specs.Entry.{zeroEntry, lowBytes, wordBytes}
 use Rattle.entry.specs.Hex.{bytesText, entryText, entryField, IsEntry}
 
 -- ---- two digits a byte are the digits of the word
@@ -59,6 +59,9 @@ unfolding entryText
 text-words e i =
     text-append (wordBytes (e .hi)) (wordBytes (e .lo))
     ∙ ap₂ _++_ (word-text (e .hi) (i .hi)) (word-text (e .lo) (i .lo))
+
+pub zero-is-entry : IsEntry zeroEntry
+zero-is-entry = record { hi = lit< tt; lo = lit< tt }
 
 -- "32 .. lowercase hex digits"
 abbrev pub entryDigits : ℕ

@@ -5,58 +5,23 @@ use mathlib.Core.Bool.{Bool, true, false, not, _&&_, cond}
 use mathlib.Core.List.{List, [], _∷_, _++_}
 use native.Mathlib.Omega.{arith}
 use native.Mathlib.Nat.{zero-add}
-use lib.Dec.{ltb, leb}
+use lib.Dec.{eqb, ltb, leb}
 use lib.ListN.{length, drop}
 use lib.Seq.{sets-eq}
-use borrow.Author.Tests.{ltb-false, eq-eqb, ne-eqb}
+use borrow.Author.Tests.{eqb-true}
 use Rattle.base.specs.Refusal.{first}
-use Rattle.text.specs.Digits.{decimal, wordDigits, hex, width}
 use Rattle.text.specs.Fields.{tab, lf, tabbed}
 use Rattle.text.specs.Put.{placed, Puts}
 use Rattle.text.specs.PutLaws.{puts-placed, become, put-then, leaf}
-use Rattle.entry.specs.Hex.{entryText}
-use Rattle.entry.specs.HexLaws.{entryDigits}
-use Rattle.votes.specs.declared.Row.{Row}
-use Rattle.messages.specs.declared.Head.{Head}
 use Rattle.messages.specs.declared.Message.{Message}
-use Rattle.messages.specs.declared.Message.the-variants.{Request}
-use Rattle.messages.specs.declared.Proposal.{Proposal}
-use Rattle.messages.specs.declared.Question.{Question}
-use Rattle.messages.specs.declared.Statement.{Statement}
-use Rattle.messages.specs.declared.write.Written.{Written}
-use Rattle.messages.specs.Lengths.{number-takes, mask-takes, entry-takes, head-takes, line-takes}
-use Rattle.messages.specs.Lines.{head, vote, rowHead, kind, fields, line, topCount}
-use Rattle.messages.specs.Writer.{seated, writable, writerNumber, written, lent, afterwards}
+use Rattle.messages.specs.declared.Message.the-variants.{Ask}
+use Rattle.messages.specs.declared.Request.{Request}
+use Rattle.messages.specs.Lengths.{line-takes}
+use Rattle.messages.specs.Lines.{kind, fields, line, topCount}
+use Rattle.messages.specs.Writer.{seated, writable, writerRefusals, writerNumber, told, written, lent, afterwards}
+use Rattle.messages.specs.WriterLaws.{writer-zero}
 
 -- ---- how long a line is
-
--- Fields behind a head add to it.
-behind-head : (h : Head) (fs : List (List ℕ)) → length (tabbed (head h fs)) ≡ length (tabbed (head h [])) + length (tabbed fs)
-behind-head h fs = omega (arith, head-takes h fs, head-takes h [])
-
--- What line_length adds up for A and C, for P, for Q and for V.
-pub statement-takes : (x : Statement) (n : ℕ) → n ≡ length (tabbed (head (x .head) []))
-    → 2 + n + 1 + entryDigits ≡ 2 + length (tabbed (head (x .head) (entryText (x .entry) ∷ [])))
-statement-takes x n e = omega (arith, behind-head (x .head) (entryText (x .entry) ∷ []), entry-takes (x .entry) [])
-
-pub proposal-takes : (x : Proposal) (n : ℕ) → n ≡ length (tabbed (head (x .head) []))
-    → 2 + n + 1 + entryDigits + 1 + wordDigits ≡ 2 + length (tabbed (head (x .head) (entryText (x .entry) ∷ hex (x .mask) ∷ [])))
-proposal-takes x n e =
-    let mask = hex (x .mask) ∷ [] in
-    omega (arith, behind-head (x .head) (entryText (x .entry) ∷ mask), entry-takes (x .entry) mask, mask-takes (x .mask) [])
-
-pub question-takes : (x : Question) (n k : ℕ) → n ≡ length (tabbed (head (x .head) [])) → k ≡ width (x .count)
-    → 2 + n + 1 + entryDigits + 1 + k ≡ 2 + length (tabbed (head (x .head) (entryText (x .entry) ∷ decimal (x .count) ∷ [])))
-question-takes x n k e w =
-    let count = decimal (x .count) ∷ [] in
-    omega (arith, behind-head (x .head) (entryText (x .entry) ∷ count), entry-takes (x .entry) count, number-takes (x .count) [])
-
-pub row-takes : (x : Row) (h : Head) (n k : ℕ) → h ≡ rowHead x → n ≡ length (tabbed (head h []))
-    → k ≡ length (tabbed (vote (x .vote .cast) (x .vote)))
-    → 2 + n + k ≡ 2 + length (tabbed (head (rowHead x) (vote (x .vote .cast) (x .vote))))
-row-takes x h n k is e w =
-    let m = e ∙ ap (λ (y : Head). length (tabbed (head y []))) is in
-    omega (arith, behind-head (rowHead x) (vote (x .vote .cast) (x .vote)))
 
 -- The length of the line of the message that m was told to be.
 pub told-length : (m x : Message) (n : ℕ) → m ≡ x → n ≡ 2 + length (tabbed (fields x)) → n ≡ length (line m)
@@ -71,18 +36,18 @@ field-put b p c f r d one two q =
     leaf b p (p + 1) c f r d (puts-placed b p (tab ∷ []) (p + 1) c one refl) (puts-placed c (p + 1) f r d two q)
 
 -- The fields of the message that m was told to be.
-pub told-put : (b : List ℕ) (m x : Message) (r : ℕ) (d : List ℕ) → m ≡ x → Puts b 1 (tabbed (fields x)) r d
-    → Puts b 1 (tabbed (fields m)) r d
-told-put b m x r d is h =
-    become b 1 (tabbed (fields x)) (tabbed (fields m)) r d (ap (λ (y : Message). tabbed (fields y)) (sym is)) h
+pub told-put : (b : List ℕ) (p : ℕ) (m x : Message) (r : ℕ) (d : List ℕ) → m ≡ x → Puts b p (tabbed (fields x)) r d
+    → Puts b p (tabbed (fields m)) r d
+told-put b p m x r d is h =
+    become b p (tabbed (fields x)) (tabbed (fields m)) r d (ap (λ (y : Message). tabbed (fields y)) (sym is)) h
 
 -- ---- which message has a line
 
 -- Q has a line if its seat and its count fit.
-pub question-writable : (x : Question) (s : Bool) (m : Message) → s ≡ seated (x .head) → m ≡ Request x
+pub request-writable : (x : Request) (s : Bool) (m : Message) → s ≡ seated (x .head) → m ≡ Ask x
     → (s && leb (x .count) topCount) ≡ writable m
 unfolding writable
-question-writable x s m e is = ap (λ (y : Bool). y && leb (x .count) topCount) e ∙ ap writable (sym is)
+request-writable x s m e is = ap (λ (y : Bool). y && leb (x .count) topCount) e ∙ ap writable (sym is)
 
 -- ---- the buffer afterwards
 
@@ -106,42 +71,19 @@ line-put b m k c end d e is one two three room =
 -- ---- the number
 
 -- 21 first or 20 first: they do not apply together.
-pub number-order : (can short : Bool) → cond (not can) 21 (cond short 20 0) ≡ first ((20, can && short) ∷ (21, not can) ∷ [])
-number-order true true = refl
-number-order true false = refl
-number-order false short = refl
+pub number-order : (can : Bool) (room n : ℕ) → cond (not can) 21 (cond (ltb room n) 20 0) ≡ first (writerRefusals can room n)
+number-order true room n = refl
+number-order false room n = refl
 
-pub number-is : (buf : List ℕ) (m : Message) (can : Bool) (n r : ℕ) → can ≡ writable m → n ≡ length (line m)
-    → r ≡ first ((20, can && ltb (length buf) n) ∷ (21, not can) ∷ []) → r ≡ writerNumber buf m
-number-is buf m can n r w e h =
-    h ∙ ap₂ (λ (b : Bool) (k : ℕ). first ((20, b && ltb (length buf) k) ∷ (21, not b) ∷ [])) w e
-
--- Where it is 0 the line has room.
-pub number-room : (buf : List ℕ) (m : Message) → writerNumber buf m ≡ 0 → length (line m) ≤ length buf
-number-room buf m z = go (writable m) (ltb (length buf) (length (line m))) refl z
-  where
-    go : (can short : Bool) → ltb (length buf) (length (line m)) ≡ short → first ((20, can && short) ∷ (21, not can) ∷ []) ≡ 0
-        → length (line m) ≤ length buf
-    go true true h z = absurd (omega arith)
-    go true false h z = ltb-false (length buf) (length (line m)) h
-    go false short h z = absurd (omega arith)
+-- Where it is 0 the line that was measured has room.
+pub number-room : (can : Bool) (room n r k : ℕ) → r ≡ first (writerRefusals can room n) → n ≡ k → eqb r 0 ≡ true → k ≤ room
+number-room can room n r k e is z = omega (arith, writer-zero can room n (sym e ∙ eqb-true r 0 z) .1, is)
 
 -- What the writer answers, and the buffer.
-abbrev Answers : List ℕ → Message → Written → List ℕ → Type 0
-Answers buf m r after = (r ≡ written buf m) × (after ≡ afterwards buf m)
-
--- It refuses.
-pub answers-refused : (buf : List ℕ) (m : Message) (r : ℕ) → r ≡ writerNumber buf m → (r ≡ 0 → ⊥)
-    → Answers buf m (record { number = r; length = 0 }) buf
+pub answers : (buf : List ℕ) (m : Message) (can : Bool) (n r : ℕ) → can ≡ writable m → n ≡ length (line m)
+    → r ≡ first (writerRefusals can (length buf) n)
+    → (told r n ≡ written buf m) × (cond (eqb r 0) (lent buf (line m)) buf ≡ afterwards buf m)
 unfolding written afterwards
-answers-refused buf m r e ne =
-    let not-0 = ne-eqb (writerNumber buf m) 0 (λ z. ne (e ∙ z)) in
-    (simp not-0 (ap (λ (k : ℕ). record { number = k; length = 0 }) e), simp not-0)
-
--- The line was put.
-pub answers-0 : (buf : List ℕ) (m : Message) (n : ℕ) (after : List ℕ) → writerNumber buf m ≡ 0 → n ≡ length (line m)
-    → after ≡ lent buf (line m) → Answers buf m (record { number = 0; length = n }) after
-unfolding written afterwards
-answers-0 buf m n after z e a =
-    let is-0 = eq-eqb (writerNumber buf m) 0 z in
-    (simp is-0 (ap₂ (λ (k l : ℕ). record { number = k; length = l }) (sym z) e), simp is-0 a)
+answers buf m can n r w e h =
+    let number : r ≡ writerNumber buf m = h ∙ ap₂ (λ (b : Bool) (k : ℕ). first (writerRefusals b (length buf) k)) w e in
+    (ap₂ told number e, ap (λ (k : ℕ). cond (eqb k 0) (lent buf (line m)) buf) number)

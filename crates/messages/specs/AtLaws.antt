@@ -102,8 +102,8 @@ module _ (t : List ℕ) (e : ℕ) (fs : List (List ℕ)) where
       let x = entry-exact (behind t e) g in
       (behind-written t e (entryText y) fs (x .0) (text-some y) a, x .1)
 
-  pub letter-written : (k : ℕ) → letterAt t e .letter ≡ suc k → Ahead t (endBehind t e) fs → Ahead t e ((suc k ∷ []) ∷ fs)
-  letter-written k h a = behind-written t e (suc k ∷ []) fs (letter-one (behind t e) k h) (lit< tt) a
+  pub letter-written : (k : ℕ) → 0 < k → letterAt t e .letter ≡ k → Ahead t (endBehind t e) fs → Ahead t e ((k ∷ []) ∷ fs)
+  letter-written k p h a = behind-written t e (k ∷ []) fs (letter-one (behind t e) k p h) (lit< tt) a
 
   pub mark-written : markOf (letterAt t e .letter) .good ≡ true → Ahead t (endBehind t e) fs
       → Ahead t e (mark (markOf (letterAt t e .letter) .verified) ∷ fs)
@@ -113,5 +113,5 @@ module _ (t : List ℕ) (e : ℕ) (fs : List (List ℕ)) where
       x = letterAt t e .letter
 
       go : (v : Bool) → eqb x plus ≡ v → (v || eqb x dash) ≡ true → Ahead t e (mark v ∷ fs)
-      go true p g = letter-written 42 (eqb-true x plus p) a
-      go false p g = letter-written 44 (eqb-true x dash g) a
+      go true p g = letter-written plus (lit< tt) (eqb-true x plus p) a
+      go false p g = letter-written dash (lit< tt) (eqb-true x dash g) a

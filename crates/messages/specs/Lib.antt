@@ -10,3 +10,4 @@ pub mod Setup
 pub mod SetupLaws
 pub mod Unique
 pub mod Writer
+pub mod WriterLaws

@@ -13,7 +13,7 @@ use Rattle.votes.specs.declared.Vote.{Vote}
 use Rattle.votes.specs.declared.Row.{Row}
 use Rattle.messages.specs.declared.Head.{Head}
 use Rattle.messages.specs.declared.Message.{Message}
-use Rattle.messages.specs.declared.Message.the-variants.{Start, Enter, Propose, Acknowledge, Cast, Request, Confirm}
+use Rattle.messages.specs.declared.Message.the-variants.{Start, Enter, Propose, Acknowledge, Cast, Ask, Confirm}
 use Rattle.messages.specs.declared.read.Line.{Line}
 use Rattle.messages.specs.declared.read.Line.the-variants.{Read, Malformed}
 
@@ -49,15 +49,42 @@ rowHead r = record { seat = r .seat; verified = r .verified; view = r .view }
 
 -- ---- lines
 
--- S, E, P, A, V, Q, C
+-- `S`
+abbrev pub startKind : ℕ
+startKind = 0x53
+
+-- `E`
+abbrev pub enterKind : ℕ
+enterKind = 0x45
+
+-- `P`
+abbrev pub proposeKind : ℕ
+proposeKind = 0x50
+
+-- `A`
+abbrev pub acknowledgeKind : ℕ
+acknowledgeKind = 0x41
+
+-- `V`
+abbrev pub castKind : ℕ
+castKind = 0x56
+
+-- `Q`
+abbrev pub askKind : ℕ
+askKind = 0x51
+
+-- `C`
+abbrev pub confirmKind : ℕ
+confirmKind = 0x43
+
 abbrev pub kind : Message → ℕ
-kind Start = 0x53
-kind (Enter v) = 0x45
-kind (Propose p) = 0x50
-kind (Acknowledge a) = 0x41
-kind (Cast r) = 0x56
-kind (Request q) = 0x51
-kind (Confirm c) = 0x43
+kind Start = startKind
+kind (Enter v) = enterKind
+kind (Propose p) = proposeKind
+kind (Acknowledge a) = acknowledgeKind
+kind (Cast r) = castKind
+kind (Ask q) = askKind
+kind (Confirm c) = confirmKind
 
 -- "`S`; `E` view. `P` seat mark view entry mask. `A` seat mark view entry; `C` the same. `V` seat mark view `-`, a nil vote; or
 -- `V` seat mark view u entry mask mark. `Q` seat mark view entry count"
@@ -67,7 +94,7 @@ fields (Enter v) = view v ∷ []
 fields (Propose p) = head (p .head) (entryText (p .entry) ∷ hex (p .mask) ∷ [])
 fields (Acknowledge a) = head (a .head) (entryText (a .entry) ∷ [])
 fields (Cast r) = head (rowHead r) (vote (r .vote .cast) (r .vote))
-fields (Request q) = head (q .head) (entryText (q .entry) ∷ decimal (q .count) ∷ [])
+fields (Ask q) = head (q .head) (entryText (q .entry) ∷ decimal (q .count) ∷ [])
 fields (Confirm c) = head (c .head) (entryText (c .entry) ∷ [])
 
 -- "One record a line, fields parted by one tab, ended by one LF"
@@ -85,32 +112,42 @@ topView = 4294967295
 abbrev pub topCount : ℕ
 topCount = 64
 
-pub record FitsHead (h : Head) : Type 0 where
-  pub seat : h .seat .0 ≤ topSeat
+-- A seat is at most the number given; a view is as its type has it.
+pub record HeadWithin (top : ℕ) (h : Head) : Type 0 where
+  pub seat : h .seat .0 ≤ top
   pub view : h .view .0 ≤ topView
 
 -- A mask is a number of 64 bits.
 abbrev pub IsMask : ℕ → Type 0
 IsMask m = m < 2 ^ 64
 
-pub record FitsVote (x : Vote) : Type 0 where
+pub record VoteWithin (x : Vote) : Type 0 where
   pub view : x .view .0 ≤ topView
   pub entry : IsEntry (x .entry)
   pub mask : IsMask (x .mask)
 
 -- "Unused fields do not count."
-abbrev pub FitsCast : Bool → Vote → Type 0
-FitsCast true x = FitsVote x
-FitsCast false x = Unit {0}
+abbrev pub CastWithin : Bool → Vote → Type 0
+CastWithin true x = VoteWithin x
+CastWithin false x = Unit {0}
 
+-- Seats and counts are at most the numbers given; all other numbers are as their types have them.
+abbrev pub Within : ℕ → ℕ → Message → Type 0
+Within seats counts Start = Unit {0}
+Within seats counts (Enter v) = v .0 ≤ topView
+Within seats counts (Propose p) = HeadWithin seats (p .head) × (IsEntry (p .entry) × IsMask (p .mask))
+Within seats counts (Acknowledge a) = HeadWithin seats (a .head) × IsEntry (a .entry)
+Within seats counts (Cast r) = HeadWithin seats (rowHead r) × CastWithin (r .vote .cast) (r .vote)
+Within seats counts (Ask q) = HeadWithin seats (q .head) × (IsEntry (q .entry) × (q .count ≤ counts))
+Within seats counts (Confirm c) = HeadWithin seats (c .head) × IsEntry (c .entry)
+
+-- The messages that have a line.
 abbrev pub Fits : Message → Type 0
-Fits Start = Unit {0}
-Fits (Enter v) = v .0 ≤ topView
-Fits (Propose p) = FitsHead (p .head) × (IsEntry (p .entry) × IsMask (p .mask))
-Fits (Acknowledge a) = FitsHead (a .head) × IsEntry (a .entry)
-Fits (Cast r) = FitsHead (rowHead r) × FitsCast (r .vote .cast) (r .vote)
-Fits (Request q) = FitsHead (q .head) × (IsEntry (q .entry) × (q .count ≤ topCount))
-Fits (Confirm c) = FitsHead (c .head) × IsEntry (c .entry)
+Fits m = Within topSeat topCount m
+
+-- The messages there are: a seat and a count are each one byte.
+abbrev pub Typed : Message → Type 0
+Typed m = Within 255 255 m
 
 -- ---- unused fields: those of a nil vote, which the reader gives as zero
 abbrev pub nilVote : Vote
@@ -129,10 +166,10 @@ tidy (Enter v) = Enter v
 tidy (Propose p) = Propose p
 tidy (Acknowledge a) = Acknowledge a
 tidy (Cast r) = Cast (tidyRow r)
-tidy (Request q) = Request q
+tidy (Ask q) = Ask q
 tidy (Confirm c) = Confirm c
 
--- ---- what reading a line is: the message whose line it is, and 19 exactly where it is the line of no message
+-- ---- what reading a line is: the message that fits and whose line it is, and 19 exactly where there is none
 abbrev pub Reads : List ℕ → Line → Type 0
 Reads l (Read m) = (l ≡ line m) × (Fits m × (tidy m ≡ m))
 Reads l Malformed = (m : Message) → Fits m → l ≡ line m → ⊥

@@ -11,7 +11,7 @@ use Rattle.votes.specs.declared.Vote.{Vote}
 use Rattle.votes.specs.declared.Row.{Row}
 use Rattle.messages.specs.declared.Head.{Head}
 use Rattle.messages.specs.declared.Message.{Message}
-use Rattle.messages.specs.declared.Message.the-variants.{Start, Enter, Propose, Acknowledge, Cast, Request, Confirm}
+use Rattle.messages.specs.declared.Message.the-variants.{Start, Enter, Propose, Acknowledge, Cast, Ask, Confirm}
 use Rattle.messages.specs.declared.read.Line.{Line}
 use Rattle.messages.specs.declared.read.Line.the-variants.{Read, Malformed}
 use Rattle.messages.specs.declared.read.NumberAt.{NumberAt}
@@ -19,12 +19,9 @@ use Rattle.messages.specs.declared.read.LetterAt.{LetterAt}
 use Rattle.messages.specs.declared.read.EntryAt.{EntryAt}
 use Rattle.messages.specs.declared.read.Mark.{Mark}
 use Rattle.messages.specs.declared.read.HeadAt.{HeadAt}
-use Rattle.messages.specs.declared.read.StatementAt.{StatementAt}
-use Rattle.messages.specs.declared.read.ProposalAt.{ProposalAt}
-use Rattle.messages.specs.declared.read.QuestionAt.{QuestionAt}
-use Rattle.messages.specs.declared.read.ViewAt.{ViewAt}
-use Rattle.messages.specs.declared.read.RowAt.{RowAt}
+use Rattle.messages.specs.declared.read.AssentAt.{AssentAt}
 use Rattle.messages.specs.Lines.{plus, dash, topSeat, topView, topCount, nilVote}
+use Rattle.messages.specs.Lines.{startKind, enterKind, proposeKind, acknowledgeKind, castKind, askKind, confirmKind}
 
 -- ---- the field behind the tab at place e, and where it ends
 abbrev pub numberAt : List ℕ → ℕ → ℕ → NumberAt
@@ -55,84 +52,80 @@ headAt t e =
       end = v .end;
     }
 
-unfoldable pub viewAt : List ℕ → ℕ → ViewAt
-viewAt t e =
-    let v = numberAt t e topView in
-    record { good = v .number .good && over t (v .end); view = record { 0 = v .number .value } }
+abbrev pub got : Bool → Message → Line
+got good m = cond good (Read m) Malformed
 
-unfoldable pub statementAt : List ℕ → ℕ → StatementAt
-statementAt t e =
+unfoldable pub enterAt : List ℕ → ℕ → Line
+enterAt t e =
+    let v = numberAt t e topView in
+    got (v .number .good && over t (v .end)) (Enter (record { 0 = v .number .value }))
+
+unfoldable pub assentAt : List ℕ → ℕ → AssentAt
+assentAt t e =
     let h = headAt t e in
     let x = entryAt t (h .end) in
     record {
       good = (h .good && x .field .good) && over t (x .end);
-      statement = record { head = h .head; entry = x .field .entry };
+      assent = record { head = h .head; entry = x .field .entry };
     }
 
-unfoldable pub proposalAt : List ℕ → ℕ → ProposalAt
-proposalAt t e =
+unfoldable pub proposeAt : List ℕ → ℕ → Line
+proposeAt t e =
     let h = headAt t e in
     let x = entryAt t (h .end) in
     let m = hexAt t (x .end) in
-    record {
-      good = ((h .good && x .field .good) && m .number .good) && over t (m .end);
-      proposal = record { head = h .head; entry = x .field .entry; mask = m .number .value };
-    }
+    got (((h .good && x .field .good) && m .number .good) && over t (m .end))
+    (Propose (record { head = h .head; entry = x .field .entry; mask = m .number .value }))
 
-unfoldable pub questionAt : List ℕ → ℕ → QuestionAt
-questionAt t e =
+unfoldable pub askAt : List ℕ → ℕ → Line
+askAt t e =
     let h = headAt t e in
     let x = entryAt t (h .end) in
     let c = numberAt t (x .end) topCount in
-    record {
-      good = ((h .good && x .field .good) && c .number .good) && over t (c .end);
-      question = record { head = h .head; entry = x .field .entry; count = c .number .value };
-    }
+    got (((h .good && x .field .good) && c .number .good) && over t (c .end))
+    (Ask (record { head = h .head; entry = x .field .entry; count = c .number .value }))
 
 abbrev pub rowOf : Head → Vote → Row
 rowOf h x = record { seat = h .seat; verified = h .verified; view = h .view; vote = x }
 
-unfoldable pub nilAt : List ℕ → HeadAt → ℕ → RowAt
-nilAt t h e = record { good = h .good && over t e; row = rowOf (h .head) nilVote }
+unfoldable pub nilAt : List ℕ → HeadAt → ℕ → Line
+nilAt t h e = got (h .good && over t e) (Cast (rowOf (h .head) nilVote))
 
-unfoldable pub castAt : List ℕ → HeadAt → RowAt
-castAt t h =
+unfoldable pub voteAt : List ℕ → HeadAt → Line
+voteAt t h =
     let u = numberAt t (h .end) topView in
     let x = entryAt t (u .end) in
     let c = hexAt t (x .end) in
     let m = letterAt t (c .end) in
     let k = markOf (m .letter) in
-    record {
-      good = ((((h .good && u .number .good) && x .field .good) && c .number .good) && k .good) && over t (m .end);
-      row = rowOf (h .head) (record {
-        entry = x .field .entry;
-        mask = c .number .value;
-        view = record { 0 = u .number .value };
-        cast = true;
-        verified = k .verified;
-      });
-    }
+    got (((((h .good && u .number .good) && x .field .good) && c .number .good) && k .good) && over t (m .end))
+    (Cast (rowOf (h .head) (record {
+      entry = x .field .entry;
+      mask = c .number .value;
+      view = record { 0 = u .number .value };
+      cast = true;
+      verified = k .verified;
+    })))
 
-unfoldable pub rowAt : List ℕ → ℕ → RowAt
-rowAt t e =
+unfoldable pub castAt : List ℕ → ℕ → Line
+castAt t e =
     let h = headAt t e in
     let d = letterAt t (h .end) in
-    cond (eqb (d .letter) dash) (nilAt t h (d .end)) (castAt t h)
+    cond (eqb (d .letter) dash) (nilAt t h (d .end)) (voteAt t h)
 
 -- ---- the line, by its kind
-abbrev pub got : Bool → Message → Line
-got good m = cond good (Read m) Malformed
-
-unfoldable pub ofKind : List ℕ → ℕ → Line
-ofKind l k =
-    cond (eqb k 0x41) (got (statementAt l 1 .good) (Acknowledge (statementAt l 1 .statement)))
-    (cond (eqb k 0x56) (got (rowAt l 1 .good) (Cast (rowAt l 1 .row)))
-    (cond (eqb k 0x50) (got (proposalAt l 1 .good) (Propose (proposalAt l 1 .proposal)))
-    (cond (eqb k 0x43) (got (statementAt l 1 .good) (Confirm (statementAt l 1 .statement)))
-    (cond (eqb k 0x51) (got (questionAt l 1 .good) (Request (questionAt l 1 .question)))
-    (cond (eqb k 0x45) (got (viewAt l 1 .good) (Enter (viewAt l 1 .view)))
-    (cond (eqb k 0x53) (got (over l 1) Start)
+unfoldable pub messageAt : List ℕ → ℕ → ℕ → Line
+messageAt t e k =
+    let a = assentAt t e in
+    cond (eqb k acknowledgeKind) (got (a .good) (Acknowledge (a .assent)))
+    (cond (eqb k castKind) (castAt t e)
+    (cond (eqb k proposeKind) (proposeAt t e)
+    (cond (eqb k confirmKind) (got (a .good) (Confirm (a .assent)))
+    (cond (eqb k askKind) (askAt t e)
+    (cond (eqb k enterKind) (enterAt t e)
+    (cond (eqb k startKind) (got (over t e) Start)
     Malformed))))))
 
+-- The kind is the first field, one byte.
 unfoldable pub readLine : List ℕ → Line
-readLine l = ofKind l (letterOf (fieldAt l 0))
+readLine l = messageAt l 1 (letterOf (fieldAt l 0))

@@ -1,31 +1,30 @@
 -- Reader and writer belong together: what was written reads back, and what reads was written.
-use Prim.Native.Nat.{ℕ, _+_, _<_, _≤_}
-use mathlib.Core.Path.{_≡_, refl, sym, ap, ap₂, _∙_}
-use mathlib.Core.Bool.{Bool, true, false, not, _&&_, cond}
-use mathlib.Core.List.{List, [], _∷_}
+use Prim.Native.Nat.{ℕ, _+_, _≤_}
+use mathlib.Core.Path.{_≡_, refl, sym, ap, ap₂, _∙_, subst}
+use mathlib.Core.Bool.{true}
+use mathlib.Core.List.{List}
 use native.Mathlib.Omega.{arith}
 use native.Mathlib.Nat.{le-trans}
-use lib.Dec.{eqb, ltb, leb, lit<, lit≤}
+use lib.Dec.{leb, lit<, lit≤}
 use lib.ListN.{length, take, drop}
 use lib.Seq.{take-append-seam}
-use borrow.Author.Tests.{leb-true, le-ltb}
-use Rattle.base.specs.Refusal.{first}
+use borrow.Author.Tests.{leb-true, le-leb, le-ltb}
 use Rattle.base.specs.Tests.{and-true}
 use Rattle.base.specs.Unique.{OneAnswer}
-use Rattle.entry.specs.Hex.{IsEntry}
-use Rattle.votes.specs.declared.Vote.{Vote}
+use Rattle.entry.specs.HexLaws.{zero-is-entry}
 use Rattle.messages.specs.declared.Head.{Head}
 use Rattle.messages.specs.declared.Message.{Message}
-use Rattle.messages.specs.declared.Message.the-variants.{Start, Enter, Propose, Acknowledge, Cast, Request, Confirm}
+use Rattle.messages.specs.declared.Message.the-variants.{Start, Enter, Propose, Acknowledge, Cast, Ask, Confirm}
 use Rattle.messages.specs.declared.read.Line.{Line}
 use Rattle.messages.specs.declared.read.Line.the-variants.{Read, Malformed}
-use Rattle.messages.specs.Lines.{rowHead, line, tidy, Reads, lineNumber}
-use Rattle.messages.specs.Lines.{topSeat, topView, topCount, FitsHead, FitsVote, FitsCast, Fits, IsMask}
+use Rattle.messages.specs.declared.write.Written.{Written}
+use Rattle.messages.specs.Lines.{rowHead, line, tidy, topSeat, topCount, HeadWithin, Fits, Typed, Reads, lineNumber}
 use Rattle.messages.specs.Longest.{longestLine, longest, longestVote}
-use Rattle.messages.specs.Reader.{readLine}
 use Rattle.messages.specs.ReadBack.{written-reads-back}
 use Rattle.messages.specs.ReadExact.{read-was-written}
+use Rattle.messages.specs.Reader.{readLine}
 use Rattle.messages.specs.Writer.{seated, writable, written, lent, afterwards}
+use Rattle.messages.specs.WriterLaws.{writer-zero}
 
 -- ---- the reader's contract: the reader meets it, and nothing else does
 pub reads : (l : List ℕ) → Reads l (readLine l)
@@ -53,71 +52,75 @@ line-tells a b f g e =
     let h : Read (tidy a) ≡ Read (tidy b) = sym (written-reads-back a f) ∙ ap readLine e ∙ written-reads-back b g in
     cc
 
--- ---- numbers as their types have them: u8, u32, u64
-pub record TypedHead (h : Head) : Type 0 where
-  pub seat : h .seat .0 < 256
-  pub view : h .view .0 ≤ topView
-
-abbrev pub Typed : Message → Type 0
-Typed Start = Unit {0}
-Typed (Enter v) = v .0 ≤ topView
-Typed (Propose p) = TypedHead (p .head) × (IsEntry (p .entry) × IsMask (p .mask))
-Typed (Acknowledge a) = TypedHead (a .head) × IsEntry (a .entry)
-Typed (Cast r) = TypedHead (rowHead r) × FitsVote (r .vote)
-Typed (Request q) = TypedHead (q .head) × (IsEntry (q .entry) × (q .count < 256))
-Typed (Confirm c) = TypedHead (c .head) × IsEntry (c .entry)
-
-head-fits : (h : Head) → TypedHead h → seated h ≡ true → FitsHead h
+-- ---- a message has a line exactly where the writer does not answer 21
+head-fits : (h : Head) → HeadWithin 255 h → seated h ≡ true → HeadWithin topSeat h
 head-fits h t s = record { seat = leb-true (h .seat .0) topSeat s; view = t .view }
 
-cast-fits : (x : Vote) (cast : Bool) → FitsVote x → FitsCast cast x
-cast-fits x true f = f
-cast-fits x false f = tt
+head-seated : (h : Head) → HeadWithin topSeat h → seated h ≡ true
+head-seated h f = le-leb (h .seat .0) topSeat (f .seat)
 
--- What the writer does not refuse by 21 has a line.
 pub fits : (m : Message) → Typed m → writable m ≡ true → Fits m
 unfolding writable
 fits Start t w = tt
 fits (Enter v) t w = t
 fits (Propose p) t w = (head-fits (p .head) (t .0) w, t .1)
 fits (Acknowledge a) t w = (head-fits (a .head) (t .0) w, t .1)
-fits (Cast r) t w = (head-fits (rowHead r) (t .0) w, cast-fits (r .vote) (r .vote .cast) (t .1))
-fits (Request q) t w =
+fits (Cast r) t w = (head-fits (rowHead r) (t .0) w, t .1)
+fits (Ask q) t w =
     let both = and-true (seated (q .head)) (leb (q .count) topCount) w in
     (head-fits (q .head) (t .0) (both .0), (t .1 .0, leb-true (q .count) topCount (both .1)))
 fits (Confirm c) t w = (head-fits (c .head) (t .0) w, t .1)
 
--- ---- what the writer wrote with 0 reads back
-not-refused : (a b : Bool) → first ((20, a && b) ∷ (21, not a) ∷ []) ≡ 0 → a ≡ true
-not-refused true b z = refl
-not-refused false b z = absurd (omega arith)
+pub fits-writable : (m : Message) → Fits m → writable m ≡ true
+unfolding writable
+fits-writable Start f = refl
+fits-writable (Enter v) f = refl
+fits-writable (Propose p) f = head-seated (p .head) (f .0)
+fits-writable (Acknowledge a) f = head-seated (a .head) (f .0)
+fits-writable (Cast r) f = head-seated (rowHead r) (f .0)
+fits-writable (Ask q) f = simp (head-seated (q .head) (f .0), le-leb (q .count) topCount (f .1 .1))
+fits-writable (Confirm c) f = head-seated (c .head) (f .0)
 
+-- ---- what the writer answers 0 for, it wrote
+
+-- Where the line has room, the writer puts it and says how long it is.
+pub writes : (buf : List ℕ) (m : Message) → Fits m → length (line m) ≤ length buf
+    → (written buf m ≡ record { number = 0; length = length (line m) }) × (afterwards buf m ≡ lent buf (line m))
+unfolding written afterwards
+writes buf m f h =
+    let can = fits-writable m f in
+    let room = le-ltb (length buf) (length (line m)) h in
+    (simp (can, room), simp (can, room))
+
+-- What the writer wrote reads back.
 pub wrote-reads-back : (buf : List ℕ) (m : Message) → Typed m → written buf m .number ≡ 0
     → readLine (take (written buf m .length) (afterwards buf m)) ≡ Read (tidy m)
-unfolding written afterwards
+unfolding written
 wrote-reads-back buf m t z =
     let text = line m in
-    let size : written buf m .length ≡ length text = ap (λ (k : ℕ). cond (eqb k 0) (length text) 0) z in
-    let after : afterwards buf m ≡ lent buf text = ap (λ (k : ℕ). cond (eqb k 0) (lent buf text) buf) z in
-    let writes : writable m ≡ true = not-refused (writable m) (ltb (length buf) (length text)) z in
-    ap₂ (λ (k : ℕ) (l : List ℕ). readLine (take k l)) size after
+    let can = writer-zero (writable m) (length buf) (length text) z in
+    let f = fits m t (can .0) in
+    let w = writes buf m f (can .1) in
+    ap₂ (λ (x : Written) (l : List ℕ). readLine (take (x .length) l)) (w .0) (w .1)
     ∙ ap readLine (take-append-seam text (drop (length text) buf))
-    ∙ written-reads-back m (fits m t writes)
+    ∙ written-reads-back m f
+
+-- What was read the writer writes.
+pub read-is-written : (buf l : List ℕ) (m : Message) → readLine l ≡ Read m → length l ≤ length buf
+    → (written buf m ≡ record { number = 0; length = length l }) × (afterwards buf m ≡ lent buf l)
+read-is-written buf l m e h =
+    let r = read-was-written l m e in
+    let w = writes buf m (r .1 .0) (subst (λ (x : List ℕ). length x ≤ length buf) (r .0) h) in
+    (w .0 ∙ ap (λ (x : List ℕ). record { number = 0; length = length x }) (sym (r .0)), w .1 ∙ ap (lent buf) (sym (r .0)))
 
 -- A buffer with room for the longest line has room for every line.
-pub longest-room : (buf : List ℕ) (m : Message) → Typed m → writable m ≡ true → longestLine + 1 ≤ length buf → written buf m .number ≡ 0
-unfolding written
-longest-room buf m t w h =
-    let room = le-ltb (length buf) (length (line m)) (le-trans (longest m (fits m t w)) h) in
-    simp (w, room)
+pub longest-room : (buf : List ℕ) (m : Message) → Fits m → longestLine + 1 ≤ length buf → written buf m .number ≡ 0
+longest-room buf m f h = ap (λ (w : Written). w .number) (writes buf m f (le-trans (longest m f) h) .0)
 
--- The longest vote meets these premises.
+-- The longest vote is one of these messages.
 pub longest-typed : Typed longestVote × (writable longestVote ≡ true)
 unfolding writable
 longest-typed = (
-  (
-    record { seat = lit< tt; view = lit≤ tt },
-    record { view = lit≤ tt; entry = record { hi = lit< tt; lo = lit< tt }; mask = lit< tt },
-  ),
+  (record { seat = lit≤ tt; view = lit≤ tt }, record { view = lit≤ tt; entry = zero-is-entry; mask = lit< tt }),
   refl,
 )

@@ -8,10 +8,15 @@ use Rattle.text.specs.Digits.{decimal, letterOf}
 use Rattle.text.specs.Fields.{lineOf, fieldAt, over}
 use Rattle.entry.specs.Hex.{entryText, IsEntry}
 use Rattle.messages.specs.declared.setup.Setup.{Setup}
+use Rattle.messages.specs.declared.setup.SizesAt.{SizesAt}
 use Rattle.messages.specs.declared.setup.Opening.{Opening}
 use Rattle.messages.specs.declared.setup.Opening.the-variants.{Read, Malformed}
-use Rattle.messages.specs.Lines.{dash, topSeat, seat}
+use Rattle.messages.specs.Lines.{dash, seat}
 use Rattle.messages.specs.Reader.{numberAt, letterAt, entryAt}
+
+-- "Here n, f and seat are 0 to 99"
+abbrev pub topSetup : ℕ
+topSetup = 99
 
 -- `H`
 abbrev pub setupKind : ℕ
@@ -26,9 +31,9 @@ unfoldable pub setupLine : Setup → List ℕ
 setupLine h = lineOf setupKind (decimal (h .n) ∷ faulty (h .dash) (h .f) ∷ seat (h .seat) ∷ entryText (h .entry) ∷ [])
 
 pub record FitsSetup (h : Setup) : Type 0 where
-  pub n : h .n ≤ topSeat
-  pub f : h .f ≤ topSeat
-  pub seat : h .seat .0 ≤ topSeat
+  pub n : h .n ≤ topSetup
+  pub f : h .f ≤ topSetup
+  pub seat : h .seat .0 ≤ topSetup
   pub entry : IsEntry (h .entry)
   -- f is unused beside a dash
   pub unused : h .dash ≡ true → h .f ≡ 0
@@ -42,22 +47,30 @@ abbrev pub openingNumber : Opening → ℕ
 openingNumber (Read h) = 0
 openingNumber Malformed = 19
 
--- The reader as a function of the line. `reads-setup` in SetupLaws.antt says that its answer is the one that `ReadsSetup` asks
--- for.
-unfoldable pub readSetup : List ℕ → Opening
-readSetup l =
-    let n = numberAt l 1 topSeat in
-    let f = numberAt l (n .end) topSeat in
-    let d = eqb (letterAt l (n .end) .letter) dash in
-    let s = numberAt l (f .end) topSeat in
-    let x = entryAt l (s .end) in
-    let kind = eqb (letterOf (fieldAt l 0)) setupKind in
-    let numbers = ((kind && n .number .good) && (f .number .good || d)) && s .number .good in
-    let said : Setup = record {
+-- ---- the reader as a function of the line: `reads-setup` in SetupLaws.antt says that it answers as `ReadsSetup` asks
+
+-- n, and f or a dash, behind a field that ends at place e.
+unfoldable pub sizesAt : List ℕ → ℕ → SizesAt
+sizesAt t e =
+    let n = numberAt t e topSetup in
+    let f = numberAt t (n .end) topSetup in
+    let d = eqb (letterAt t (n .end) .letter) dash in
+    record {
+      good = n .number .good && (f .number .good || d);
       n = n .number .value;
       f = f .number .value;
       dash = d;
-      seat = record { 0 = s .number .value };
-      entry = x .field .entry;
-    } in
-    cond ((numbers && x .field .good) && over l (x .end)) (Read said) Malformed
+      end = f .end;
+    }
+
+abbrev pub opened : Bool → Setup → Opening
+opened good h = cond good (Read h) Malformed
+
+unfoldable pub readSetup : List ℕ → Opening
+readSetup l =
+    let z = sizesAt l 1 in
+    let s = numberAt l (z .end) topSetup in
+    let x = entryAt l (s .end) in
+    let kind = eqb (letterOf (fieldAt l 0)) setupKind in
+    opened ((((kind && z .good) && s .number .good) && x .field .good) && over l (x .end))
+    (record { n = z .n; f = z .f; dash = z .dash; seat = record { 0 = s .number .value }; entry = x .field .entry })

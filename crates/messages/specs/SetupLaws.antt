@@ -14,27 +14,30 @@ use Rattle.text.specs.Digits.{decimal, decDigit, plain, decimalOf, letterOf}
 use Rattle.text.specs.declared.Number.{Number}
 use Rattle.text.specs.FieldLaws.{Ahead, over-reads, over-exact, kind-reads, kind-exact}
 use Rattle.text.specs.Fields.{fieldAt, behind, endBehind, over}
-use Rattle.entry.specs.Entry.{ofWords}
+use Rattle.entry.specs.Entry.{zeroEntry}
 use Rattle.entry.specs.Hex.{entryText}
+use Rattle.entry.specs.HexLaws.{zero-is-entry}
 use Rattle.messages.specs.declared.setup.Setup.{Setup}
+use Rattle.messages.specs.declared.setup.SizesAt.{SizesAt}
 use Rattle.messages.specs.declared.setup.Opening.{Opening}
 use Rattle.messages.specs.declared.setup.Opening.the-variants.{Read, Malformed}
 use Rattle.messages.specs.declared.read.NumberAt.{NumberAt}
 use Rattle.messages.specs.declared.read.EntryAt.{EntryAt}
-use Rattle.messages.specs.Lines.{dash, topSeat, seat}
+use Rattle.messages.specs.Lines.{dash, seat}
 use Rattle.messages.specs.Reader.{numberAt, letterAt, entryAt}
-use Rattle.messages.specs.Setup.{setupKind, faulty, setupLine, FitsSetup, ReadsSetup, openingNumber, readSetup}
+use Rattle.messages.specs.Setup.{topSetup, setupKind, faulty, setupLine, FitsSetup, ReadsSetup, openingNumber}
+use Rattle.messages.specs.Setup.{sizesAt, opened, readSetup}
 use Rattle.messages.specs.AtLaws.{number-back, number-no-dash, entry-back, dash-back}
 use Rattle.messages.specs.AtLaws.{number-written, entry-written, letter-written}
 
 -- A dash is read as no number, of value 0.
-dash-zero : (f : List ℕ) → f ≡ dash ∷ [] → decimalOf topSeat f .value ≡ 0
+dash-zero : (f : List ℕ) → f ≡ dash ∷ [] → decimalOf topSetup f .value ≡ 0
 unfolding decimalOf plain decDigit
-dash-zero f e = ap (λ (g : List ℕ). decimalOf topSeat g .value) e
+dash-zero f e = ap (λ (g : List ℕ). decimalOf topSetup g .value) e
 
 module _ (t : List ℕ) (e : ℕ) (fs : List (List ℕ)) where
   abbrev number : Number
-  number = numberAt t e topSeat .number
+  number = numberAt t e topSetup .number
 
   abbrev letter : ℕ
   letter = letterAt t e .letter
@@ -47,15 +50,15 @@ module _ (t : List ℕ) (e : ℕ) (fs : List (List ℕ)) where
     pub rest : Ahead t (endBehind t e) fs
 
   -- f or a dash that was written is read.
-  faulty-back : (dashed : Bool) (f : ℕ) → f ≤ topSeat → (dashed ≡ true → f ≡ 0) → Ahead t e (faulty dashed f ∷ fs)
+  faulty-back : (dashed : Bool) (f : ℕ) → f ≤ topSetup → (dashed ≡ true → f ≡ 0) → Ahead t e (faulty dashed f ∷ fs)
       → Tells dashed f
   faulty-back true f h u a =
       let d = dash-back t e fs a in
       let is = eq-eqb letter dash (d .0) in
-      let zero = dash-zero (behind t e) (letter-one (behind t e) 44 (d .0)) in
+      let zero = dash-zero (behind t e) (letter-one (behind t e) dash (lit< tt) (d .0)) in
       record { good = or-r (number .good) (eqb letter dash) is; value = zero ∙ sym (u refl); dashes = is; rest = d .1 }
   faulty-back false f h u a =
-      let n = number-back t e fs topSeat f (lit< tt) h a in
+      let n = number-back t e fs topSetup f (lit< tt) h a in
       record { good = simp (n .0); value = simp (n .0); dashes = number-no-dash t e fs f a; rest = n .1 }
 
   -- f or a dash that was read was written.
@@ -63,26 +66,49 @@ module _ (t : List ℕ) (e : ℕ) (fs : List (List ℕ)) where
       → Ahead t e (faulty dashed (number .value) ∷ fs) × (dashed ≡ true → number .value ≡ 0)
   faulty-written true d g a =
       let is = eqb-true letter dash d in
-      (letter-written t e fs 44 is a, λ u. dash-zero (behind t e) (letter-one (behind t e) 44 is))
+      (letter-written t e fs dash (lit< tt) is a, λ u. dash-zero (behind t e) (letter-one (behind t e) dash (lit< tt) is))
   faulty-written false d g a =
-      let n = number-written t e fs topSeat (lit< tt) (sym (or-alone (number .good)) ∙ g) a in
+      let n = number-written t e fs topSetup (lit< tt) (sym (or-alone (number .good)) ∙ g) a in
       (n .0, λ u. true≢false (sym u))
+
+module _ (t : List ℕ) (e : ℕ) (fs : List (List ℕ)) where
+  -- n, and f or a dash, are read where they were written.
+  sizes-back : (n : ℕ) (dashed : Bool) (f : ℕ) → n ≤ topSetup → f ≤ topSetup → (dashed ≡ true → f ≡ 0)
+      → Ahead t e (decimal n ∷ faulty dashed f ∷ fs)
+      → (sizesAt t e ≡ record { good = true; n = n; f = f; dash = dashed; end = sizesAt t e .end }) × Ahead t (sizesAt t e .end) fs
+  unfolding sizesAt
+  sizes-back n dashed f hn hf u a =
+      let x = number-back t e (faulty dashed f ∷ fs) topSetup n (lit< tt) hn a in
+      let w = faulty-back t (endBehind t e) fs dashed f hf u (x .1) in
+      (rw (x .0, w .good, w .value, w .dashes), w .rest)
+
+  -- They were written where they are read.
+  sizes-written : sizesAt t e .good ≡ true → Ahead t (sizesAt t e .end) fs
+      → Ahead t e (decimal (sizesAt t e .n) ∷ faulty (sizesAt t e .dash) (sizesAt t e .f) ∷ fs)
+      × ((sizesAt t e .n ≤ topSetup) × ((sizesAt t e .f ≤ topSetup) × (sizesAt t e .dash ≡ true → sizesAt t e .f ≡ 0)))
+  unfolding sizesAt
+  sizes-written g a =
+      let n = numberAt t e topSetup in
+      let f = numberAt t (n .end) topSetup in
+      let d = eqb (letterAt t (n .end) .letter) dash in
+      let both = and-true (n .number .good) (f .number .good || d) g in
+      let w = faulty-written t (n .end) fs d refl (both .1) a in
+      let x = number-written t e (faulty d (f .number .value) ∷ fs) topSetup (lit< tt) (both .0) (w .0) in
+      (x .0, (x .1, (decimal-below topSetup (behind t (n .end)), w .1)))
 
 -- The line of an H reads as the H.
 pub setup-reads-back : (h : Setup) → FitsSetup h → readSetup (setupLine h) ≡ Read h
 unfolding readSetup setupLine
 setup-reads-back h f =
     let l = setupLine h in
-    let behind-f = seat (h .seat) ∷ entryText (h .entry) ∷ [] in
-    let k = kind-reads setupKind (decimal (h .n) ∷ faulty (h .dash) (h .f) ∷ behind-f) refl in
-    let n = number-back l 1 (faulty (h .dash) (h .f) ∷ behind-f) topSeat (h .n) (lit< tt) (f .n) refl in
-    let n-end = endBehind l 1 in
-    let w = faulty-back l n-end behind-f (h .dash) (h .f) (f .f) (f .unused) (n .1) in
-    let f-end = endBehind l n-end in
-    let s = number-back l f-end (entryText (h .entry) ∷ []) topSeat (h .seat .0) (lit< tt) (f .seat) (w .rest) in
-    let x = entry-back l (endBehind l f-end) [] (h .entry) (f .entry) (s .1) in
-    let o = over-reads l (endBehind l (endBehind l f-end)) (x .1) in
-    rw (k, n .0, w .good, w .value, w .dashes, s .0, x .0, o)
+    let own = seat (h .seat) ∷ entryText (h .entry) ∷ [] in
+    let k = kind-reads setupKind (decimal (h .n) ∷ faulty (h .dash) (h .f) ∷ own) refl in
+    let z = sizes-back l 1 own (h .n) (h .dash) (h .f) (f .n) (f .f) (f .unused) refl in
+    let end = sizesAt l 1 .end in
+    let s = number-back l end (entryText (h .entry) ∷ []) topSetup (h .seat .0) (lit< tt) (f .seat) (z .1) in
+    let x = entry-back l (endBehind l end) [] (h .entry) (f .entry) (s .1) in
+    let o = over-reads l (endBehind l (endBehind l end)) (x .1) in
+    rw (k, z .0, s .0, x .0, o)
 
 -- What is asked of an answer, if it is an H.
 abbrev Sound : List ℕ → Opening → Type 0
@@ -96,59 +122,41 @@ sound l = go (all-good && over l (x .end)) refl
     kind : Bool
     kind = eqb (letterOf (fieldAt l 0)) setupKind
 
-    n : NumberAt
-    n = numberAt l 1 topSeat
-
-    f : NumberAt
-    f = numberAt l (n .end) topSeat
-
-    d : Bool
-    d = eqb (letterAt l (n .end) .letter) dash
+    z : SizesAt
+    z = sizesAt l 1
 
     s : NumberAt
-    s = numberAt l (f .end) topSeat
+    s = numberAt l (z .end) topSetup
 
     x : EntryAt
     x = entryAt l (s .end)
 
-    two-good : Bool
-    two-good = (kind && n .number .good) && (f .number .good || d)
-
     all-good : Bool
-    all-good = (two-good && s .number .good) && x .field .good
+    all-good = ((kind && z .good) && s .number .good) && x .field .good
 
-    read : Setup
-    read = record {
-      n = n .number .value;
-      f = f .number .value;
-      dash = d;
-      seat = record { 0 = s .number .value };
-      entry = x .field .entry;
-    }
+    said : Setup
+    said = record { n = z .n; f = z .f; dash = z .dash; seat = record { 0 = s .number .value }; entry = x .field .entry }
 
-    go : (c : Bool) → (all-good && over l (x .end)) ≡ c → Sound l (cond c (Read read) Malformed)
+    go : (c : Bool) → (all-good && over l (x .end)) ≡ c → Sound l (opened c said)
     go false g = tt
     go true g =
-        let g₅ = and-true all-good (over l (x .end)) g in
-        let g₄ = and-true (two-good && s .number .good) (x .field .good) (g₅ .0) in
-        let g₃ = and-true two-good (s .number .good) (g₄ .0) in
-        let g₂ = and-true (kind && n .number .good) (f .number .good || d) (g₃ .0) in
-        let g₁ = and-true kind (n .number .good) (g₂ .0) in
+        let g₄ = and-true all-good (over l (x .end)) g in
+        let g₃ = and-true ((kind && z .good) && s .number .good) (x .field .good) (g₄ .0) in
+        let g₂ = and-true (kind && z .good) (s .number .good) (g₃ .0) in
+        let g₁ = and-true kind (z .good) (g₂ .0) in
         let x-field = entryText (x .field .entry) ∷ [] in
         let s-field = decimal (s .number .value) ∷ x-field in
-        let f-field = faulty d (f .number .value) ∷ s-field in
-        let x-written = entry-written l (s .end) [] (g₄ .1) (over-exact l (x .end) (g₅ .1)) in
-        let s-written = number-written l (f .end) x-field topSeat (lit< tt) (g₃ .1) (x-written .0) in
-        let f-written = faulty-written l (n .end) s-field d refl (g₂ .1) (s-written .0) in
-        let n-written = number-written l 1 f-field topSeat (lit< tt) (g₁ .1) (f-written .0) in
+        let x-written = entry-written l (s .end) [] (g₃ .1) (over-exact l (x .end) (g₄ .1)) in
+        let s-written = number-written l (z .end) x-field topSetup (lit< tt) (g₂ .1) (x-written .0) in
+        let z-written = sizes-written l 1 s-field (g₁ .1) (s-written .0) in
         let is = eqb-true (letterOf (fieldAt l 0)) setupKind (g₁ .0) in (
-          kind-exact l setupKind (decimal (n .number .value) ∷ f-field) (lit< tt) is (n-written .0),
+          kind-exact l setupKind (decimal (z .n) ∷ faulty (z .dash) (z .f) ∷ s-field) (lit< tt) is (z-written .0),
           record {
-            n = n-written .1;
-            f = decimal-below topSeat (behind l (n .end));
+            n = z-written .1 .0;
+            f = z-written .1 .1 .0;
             seat = s-written .1;
             entry = x-written .1;
-            unused = f-written .1;
+            unused = z-written .1 .1 .1;
           },
         )
 
@@ -176,28 +184,10 @@ setup-only l Malformed a = go (readSetup l) refl
 pub setup-unique : (l : List ℕ) → OneAnswer (ReadsSetup l)
 setup-unique l r s a b = setup-only l r a ∙ sym (setup-only l s b)
 
--- ---- an H that fits, with its f, and one with a dash: that of 01's case T
-abbrev pub caseT : Bool → Setup
-caseT dashed = record {
-  n = 4;
-  f = cond dashed 0 1;
-  dash = dashed;
-  seat = record { 0 = 0 };
-  entry = ofWords 0x4131202020202020 0x2020202000000001;
-}
+-- ---- H that fit, with an f and with a dash
+abbrev pub someSetup : Bool → Setup
+someSetup dashed = record { n = 4; f = cond dashed 0 1; dash = dashed; seat = record { 0 = 0 }; entry = zeroEntry }
 
-pub case-t-fits : (dashed : Bool) → FitsSetup (caseT dashed)
-case-t-fits true = record {
-  n = lit≤ tt;
-  f = lit≤ tt;
-  seat = lit≤ tt;
-  entry = record { hi = lit< tt; lo = lit< tt };
-  unused = λ d. refl;
-}
-case-t-fits false = record {
-  n = lit≤ tt;
-  f = lit≤ tt;
-  seat = lit≤ tt;
-  entry = record { hi = lit< tt; lo = lit< tt };
-  unused = λ d. true≢false (sym d);
-}
+pub some-fit : (dashed : Bool) → FitsSetup (someSetup dashed)
+some-fit true = record { n = lit≤ tt; f = lit≤ tt; seat = lit≤ tt; entry = zero-is-entry; unused = λ d. refl }
+some-fit false = record { n = lit≤ tt; f = lit≤ tt; seat = lit≤ tt; entry = zero-is-entry; unused = λ d. true≢false (sym d) }

@@ -7,7 +7,7 @@ use lib.ListN.{length, drop}
 use Rattle.base.specs.Refusal.{Refusals, first}
 use Rattle.messages.specs.declared.Head.{Head}
 use Rattle.messages.specs.declared.Message.{Message}
-use Rattle.messages.specs.declared.Message.the-variants.{Start, Enter, Propose, Acknowledge, Cast, Request, Confirm}
+use Rattle.messages.specs.declared.Message.the-variants.{Start, Enter, Propose, Acknowledge, Cast, Ask, Confirm}
 use Rattle.messages.specs.declared.write.Written.{Written}
 use Rattle.messages.specs.Lines.{line, rowHead, topSeat, topCount}
 
@@ -21,19 +21,22 @@ writable (Enter v) = true
 writable (Propose p) = seated (p .head)
 writable (Acknowledge a) = seated (a .head)
 writable (Cast r) = seated (rowHead r)
-writable (Request q) = seated (q .head) && leb (q .count) topCount
+writable (Ask q) = seated (q .head) && leb (q .count) topCount
 writable (Confirm c) = seated (c .head)
 
 -- 20: "message can be written but the buffer is too short". 21: "a seat above 99 or a count above 64".
-abbrev pub writerRefusals : List ℕ → Message → Refusals
-writerRefusals buf m = (20, writable m && ltb (length buf) (length (line m))) ∷ (21, not (writable m)) ∷ []
+abbrev pub writerRefusals : Bool → ℕ → ℕ → Refusals
+writerRefusals can room n = (20, can && ltb room n) ∷ (21, not can) ∷ []
 
 abbrev pub writerNumber : List ℕ → Message → ℕ
-writerNumber buf m = first (writerRefusals buf m)
+writerNumber buf m = first (writerRefusals (writable m) (length buf) (length (line m)))
 
 -- "The writer on 20 or 21 touches no byte and gives length 0; otherwise it writes the line and no byte after it."
+abbrev pub told : ℕ → ℕ → Written
+told number n = record { number = number; length = cond (eqb number 0) n 0 }
+
 unfoldable pub written : List ℕ → Message → Written
-written buf m = record { number = writerNumber buf m; length = cond (eqb (writerNumber buf m) 0) (length (line m)) 0 }
+written buf m = told (writerNumber buf m) (length (line m))
 
 abbrev pub lent : List ℕ → List ℕ → List ℕ
 lent buf text = text ++ drop (length text) buf

@@ -15,8 +15,8 @@ pub struct Head {
     pub view: View,
 }
 
-// What A and C say.
-pub struct Statement {
+// What A and C say: yes to this entry, in this view.
+pub struct Assent {
     pub head: Head,
     pub entry: Entry,
 }
@@ -28,7 +28,7 @@ pub struct Proposal {
 }
 
 // A request without its rows: count says how many V lines follow it.
-pub struct Question {
+pub struct Request {
     pub head: Head,
     pub entry: Entry,
     pub count: u8,
@@ -39,14 +39,11 @@ pub enum Message {
     Start,
     Enter(View),
     Propose(Proposal),
-    Acknowledge(Statement),
+    Acknowledge(Assent),
     Cast(Row),
-    Request(Question),
-    Confirm(Statement),
+    Ask(Request),
+    Confirm(Assent),
 }
-
-// The longest line, its LF counted: a buffer of this length takes every message that has a line.
-pub const LONGEST: usize = 81;
 
 // The first field of a line.
 const START: u8 = b'S';
@@ -59,7 +56,7 @@ const ACKNOWLEDGE: u8 = b'A';
 
 const CAST: u8 = b'V';
 
-const REQUEST: u8 = b'Q';
+const ASK: u8 = b'Q';
 
 const CONFIRM: u8 = b'C';
 
@@ -68,8 +65,10 @@ const PLUS: u8 = b'+';
 
 const DASH: u8 = b'-';
 
-// The largest numbers that a line can hold.
+// The largest numbers that a line can hold; the second is for n, f and seat of an H.
 const TOP_SEAT: u32 = 99;
+
+const TOP_SETUP: u32 = 99;
 
 const TOP_COUNT: u32 = 64;
 

@@ -2,9 +2,11 @@
 // of a field takes; so every kind is straight code, and looks at the end of the line once.
 ghost use mathlib.Core.Path.{_≡_};
 ghost use Prim.Native.Nat.{_≤_};
-ghost use Rattle.messages.specs.Reader.{markOf, numberAt, hexAt, letterAt, entryAt, headAt, statementAt, proposalAt};
-ghost use Rattle.messages.specs.Reader.{questionAt, viewAt, nilAt, castAt, rowAt, got, readLine};
+ghost use Rattle.messages.specs.Reader.{markOf, numberAt, hexAt, letterAt, entryAt, headAt, got, enterAt, assentAt};
+ghost use Rattle.messages.specs.Reader.{proposeAt, askAt, rowOf, nilAt, voteAt, castAt, messageAt, readLine};
 use crate::ACKNOWLEDGE;
+use crate::ASK;
+use crate::Assent;
 use crate::CAST;
 use crate::CONFIRM;
 use crate::DASH;
@@ -14,10 +16,8 @@ use crate::Message;
 use crate::PLUS;
 use crate::PROPOSE;
 use crate::Proposal;
-use crate::Question;
-use crate::REQUEST;
+use crate::Request;
 use crate::START;
-use crate::Statement;
 use crate::TOP_COUNT;
 use crate::TOP_SEAT;
 use crate::TOP_VIEW;
@@ -124,29 +124,9 @@ struct HeadAt {
     end: usize,
 }
 
-struct StatementAt {
+struct AssentAt {
     good: bool,
-    statement: Statement,
-}
-
-struct ProposalAt {
-    good: bool,
-    proposal: Proposal,
-}
-
-struct QuestionAt {
-    good: bool,
-    question: Question,
-}
-
-struct ViewAt {
-    good: bool,
-    view: View,
-}
-
-struct RowAt {
-    good: bool,
-    row: Row,
+    assent: Assent,
 }
 
 // Seat, mark and view.
@@ -170,36 +150,42 @@ fn head_at(t: &[u8], end: usize) -> HeadAt
     }
 }
 
-fn view_at(t: &[u8], end: usize) -> ViewAt
-    ensures { λ r. ⌜ r ≡ viewAt (now (t .entry)) end ⌝ }
+fn got(good: bool, m: Message) -> Line
+    ensures { λ r. ⌜ r ≡ got good m ⌝ }
+{
+    if good { Line::Read(m) } else { Line::Malformed }
+}
+
+fn enter_at(t: &[u8], end: usize) -> Line
+    ensures { λ r. ⌜ r ≡ enterAt (now (t .entry)) end ⌝ }
 {
     let v = number_at(t, end, TOP_VIEW);
     let view = v.number;
-    ViewAt {
-        good: view.good & over(t, v.end),
-        view: View(view.value as u32),
-    }
+    got(
+        view.good & over(t, v.end),
+        Message::Enter(View(view.value as u32)),
+    )
 }
 
-fn statement_at(t: &[u8], end: usize) -> StatementAt
-    ensures { λ r. ⌜ r ≡ statementAt (now (t .entry)) end ⌝ }
+fn assent_at(t: &[u8], end: usize) -> AssentAt
+    ensures { λ r. ⌜ r ≡ assentAt (now (t .entry)) end ⌝ }
 {
     let h = head_at(t, end);
     let e = entry_at(t, h.end);
     let x = e.field;
     let head = h.head;
     let entry = x.entry;
-    StatementAt {
+    AssentAt {
         good: h.good & x.good & over(t, e.end),
-        statement: Statement {
+        assent: Assent {
             head: head,
             entry: entry,
         },
     }
 }
 
-fn proposal_at(t: &[u8], end: usize) -> ProposalAt
-    ensures { λ r. ⌜ r ≡ proposalAt (now (t .entry)) end ⌝ }
+fn propose_at(t: &[u8], end: usize) -> Line
+    ensures { λ r. ⌜ r ≡ proposeAt (now (t .entry)) end ⌝ }
 {
     let h = head_at(t, end);
     let e = entry_at(t, h.end);
@@ -208,18 +194,19 @@ fn proposal_at(t: &[u8], end: usize) -> ProposalAt
     let mask = m.number;
     let head = h.head;
     let entry = x.entry;
-    ProposalAt {
-        good: h.good & x.good & mask.good & over(t, m.end),
-        proposal: Proposal {
-            head: head,
-            entry: entry,
-            mask: mask.value,
-        },
-    }
+    let p = Proposal {
+        head: head,
+        entry: entry,
+        mask: mask.value,
+    };
+    got(
+        h.good & x.good & mask.good & over(t, m.end),
+        Message::Propose(p),
+    )
 }
 
-fn question_at(t: &[u8], end: usize) -> QuestionAt
-    ensures { λ r. ⌜ r ≡ questionAt (now (t .entry)) end ⌝ }
+fn ask_at(t: &[u8], end: usize) -> Line
+    ensures { λ r. ⌜ r ≡ askAt (now (t .entry)) end ⌝ }
 {
     let h = head_at(t, end);
     let e = entry_at(t, h.end);
@@ -228,23 +215,35 @@ fn question_at(t: &[u8], end: usize) -> QuestionAt
     let count = c.number;
     let head = h.head;
     let entry = x.entry;
-    QuestionAt {
-        good: h.good & x.good & count.good & over(t, c.end),
-        question: Question {
-            head: head,
-            entry: entry,
-            count: count.value as u8,
-        },
+    let q = Request {
+        head: head,
+        entry: entry,
+        count: count.value as u8,
+    };
+    got(
+        h.good & x.good & count.good & over(t, c.end),
+        Message::Ask(q),
+    )
+}
+
+fn row_of(h: Head, vote: Vote) -> Row
+    ensures { λ r. ⌜ r ≡ rowOf h vote ⌝ }
+{
+    let seat = h.seat;
+    let view = h.view;
+    Row {
+        seat: seat,
+        verified: h.verified,
+        view: view,
+        vote: vote,
     }
 }
 
 // A nil vote is one dash; its unused fields are zero.
-fn nil_at(t: &[u8], h: HeadAt, end: usize) -> RowAt
+fn nil_at(t: &[u8], h: HeadAt, end: usize) -> Line
     ensures { λ r. ⌜ r ≡ nilAt (now (t .entry)) h end ⌝ }
 {
     let head = h.head;
-    let seat = head.seat;
-    let view = head.view;
     let nil = Vote {
         entry: zero(),
         mask: 0,
@@ -252,68 +251,80 @@ fn nil_at(t: &[u8], h: HeadAt, end: usize) -> RowAt
         cast: false,
         verified: false,
     };
-    RowAt {
-        good: h.good & over(t, end),
-        row: Row {
-            seat: seat,
-            verified: head.verified,
-            view: view,
-            vote: nil,
-        },
-    }
+    got(h.good & over(t, end), Message::Cast(row_of(head, nil)))
 }
 
-// A vote that is cast: u, entry, mask and mark.
-fn cast_at(t: &[u8], h: HeadAt) -> RowAt
-    ensures { λ r. ⌜ r ≡ castAt (now (t .entry)) h ⌝ }
+// A vote that is not nil: u, entry, mask and mark.
+fn vote_at(t: &[u8], h: HeadAt) -> Line
+    ensures { λ r. ⌜ r ≡ voteAt (now (t .entry)) h ⌝ }
 {
     let u = number_at(t, h.end, TOP_VIEW);
     let e = entry_at(t, u.end);
     let c = hex_at(t, e.end);
     let m = letter_at(t, c.end);
     let mark = mark_of(m.letter);
-    let cast = u.number;
+    let view = u.number;
     let x = e.field;
     let mask = c.number;
     let head = h.head;
-    let seat = head.seat;
-    let view = head.view;
     let entry = x.entry;
     let vote = Vote {
         entry: entry,
         mask: mask.value,
-        view: View(cast.value as u32),
+        view: View(view.value as u32),
         cast: true,
         verified: mark.verified,
     };
-    RowAt {
-        good: h.good & cast.good & x.good & mask.good & mark.good & over(t, m.end),
-        row: Row {
-            seat: seat,
-            verified: head.verified,
-            view: view,
-            vote: vote,
-        },
-    }
+    got(
+        h.good & view.good & x.good & mask.good & mark.good & over(t, m.end),
+        Message::Cast(row_of(head, vote)),
+    )
 }
 
-fn row_at(t: &[u8], end: usize) -> RowAt
-    ensures { λ r. ⌜ r ≡ rowAt (now (t .entry)) end ⌝ }
+fn cast_at(t: &[u8], end: usize) -> Line
+    ensures { λ r. ⌜ r ≡ castAt (now (t .entry)) end ⌝ }
 {
     let h = head_at(t, end);
     let d = letter_at(t, h.end);
     if d.letter == DASH {
         nil_at(t, h, d.end)
     } else {
-        cast_at(t, h)
+        vote_at(t, h)
     }
 }
 
 // ---- the line
-fn got(good: bool, m: Message) -> Line
-    ensures { λ r. ⌜ r ≡ got good m ⌝ }
+
+// What stands behind the kind, or behind what may come to stand between.
+fn message_at(t: &[u8], end: usize, kind: u8) -> Line
+    ensures { λ r. ⌜ r ≡ messageAt (now (t .entry)) end kind ⌝ }
 {
-    if good { Line::Read(m) } else { Line::Malformed }
+    if kind == ACKNOWLEDGE {
+        let x = assent_at(t, end);
+        let a = x.assent;
+        return got(x.good, Message::Acknowledge(a));
+    }
+    if kind == CAST {
+        return cast_at(t, end);
+    }
+    if kind == PROPOSE {
+        return propose_at(t, end);
+    }
+    if kind == CONFIRM {
+        let x = assent_at(t, end);
+        let c = x.assent;
+        return got(x.good, Message::Confirm(c));
+    }
+    if kind == ASK {
+        return ask_at(t, end);
+    }
+    if kind == ENTER {
+        return enter_at(t, end);
+    }
+    if kind == START {
+        return got(over(t, end), Message::Start);
+    }
+    Line::Malformed
 }
 
 // The message of which this is the line, with its LF and nothing behind it.
@@ -321,38 +332,5 @@ pub fn read_line(line: &[u8]) -> Line
     ensures { λ r. ⌜ r ≡ readLine (now (line .entry)) ⌝ }
 {
     let kind = letter(field(line, 0));
-    if kind == ACKNOWLEDGE {
-        let x = statement_at(line, 1);
-        let a = x.statement;
-        return got(x.good, Message::Acknowledge(a));
-    }
-    if kind == CAST {
-        let x = row_at(line, 1);
-        let r = x.row;
-        return got(x.good, Message::Cast(r));
-    }
-    if kind == PROPOSE {
-        let x = proposal_at(line, 1);
-        let p = x.proposal;
-        return got(x.good, Message::Propose(p));
-    }
-    if kind == CONFIRM {
-        let x = statement_at(line, 1);
-        let c = x.statement;
-        return got(x.good, Message::Confirm(c));
-    }
-    if kind == REQUEST {
-        let x = question_at(line, 1);
-        let q = x.question;
-        return got(x.good, Message::Request(q));
-    }
-    if kind == ENTER {
-        let x = view_at(line, 1);
-        let v = x.view;
-        return got(x.good, Message::Enter(v));
-    }
-    if kind == START {
-        return got(over(line, 1), Message::Start);
-    }
-    Line::Malformed
+    message_at(line, 1, kind)
 }

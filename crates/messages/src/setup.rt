@@ -1,8 +1,8 @@
 // The line H: n, f or a dash, seat, entry.
 ghost use mathlib.Core.Path.{_≡_};
-ghost use Rattle.messages.specs.Setup.{readSetup};
+ghost use Rattle.messages.specs.Setup.{sizesAt, opened, readSetup};
 use crate::DASH;
-use crate::TOP_SEAT;
+use crate::TOP_SETUP;
 use crate::read::entry_at;
 use crate::read::letter_at;
 use crate::read::number_at;
@@ -29,36 +29,62 @@ pub enum Opening {
     Malformed,
 }
 
+// What the fields of n and f say, and where the second ends.
+struct SizesAt {
+    good: bool,
+    n: u8,
+    f: u8,
+    dash: bool,
+    end: usize,
+}
+
+fn sizes_at(t: &[u8], end: usize) -> SizesAt
+    ensures { λ r. ⌜ r ≡ sizesAt (now (t .entry)) end ⌝ }
+{
+    let n = number_at(t, end, TOP_SETUP);
+    let f = number_at(t, n.end, TOP_SETUP);
+    let d = letter_at(t, n.end);
+    let seats = n.number;
+    let faulty = f.number;
+    let dash = d.letter == DASH;
+    SizesAt {
+        good: seats.good & (faulty.good | dash),
+        n: seats.value as u8,
+        f: faulty.value as u8,
+        dash: dash,
+        end: f.end,
+    }
+}
+
+fn opened(good: bool, h: Setup) -> Opening
+    ensures { λ r. ⌜ r ≡ opened good h ⌝ }
+{
+    if good {
+        Opening::Read(h)
+    } else {
+        Opening::Malformed
+    }
+}
+
 pub fn read_setup(line: &[u8]) -> Opening
     ensures { λ r. ⌜ r ≡ readSetup (now (line .entry)) ⌝ }
 {
     let kind = letter(field(line, 0));
-    let n = number_at(line, 1, TOP_SEAT);
-    let f = number_at(line, n.end, TOP_SEAT);
-    let d = letter_at(line, n.end);
-    let s = number_at(line, f.end, TOP_SEAT);
+    let z = sizes_at(line, 1);
+    let s = number_at(line, z.end, TOP_SETUP);
     let e = entry_at(line, s.end);
-    let seats = n.number;
-    let faulty = f.number;
     let seat = s.number;
     let x = e.field;
-    let dash = d.letter == DASH;
-    if (kind == SETUP)
-        & seats.good
-        & (faulty.good | dash)
-        & seat.good
-        & x.good
-        & over(line, e.end)
-    {
-        let entry = x.entry;
-        Opening::Read(Setup {
-            n: seats.value as u8,
-            f: faulty.value as u8,
-            dash: dash,
-            seat: Seat(seat.value as u8),
-            entry: entry,
-        })
-    } else {
-        Opening::Malformed
-    }
+    let entry = x.entry;
+    let h = Setup {
+        n: z.n,
+        f: z.f,
+        dash: z.dash,
+        seat: Seat(seat.value as u8),
+        entry: entry,
+    };
+    opened(
+        (kind == SETUP) & z.good & seat.good & x.good & over(line, e.end),
+        h,
+    )
 }

@@ -79,8 +79,8 @@ digits-begin b char from (suc k) v h =
     record { byte = char (v / b ^ k % b); rest = digits b char k v; is = refl; digit = from (v / b ^ k % b) }
 
 -- A letter that is no 0 is the field's only byte.
-pub letter-one : (f : List ℕ) (k : ℕ) → letterOf f ≡ suc k → f ≡ suc k ∷ []
+pub letter-one : (f : List ℕ) (k : ℕ) → 0 < k → letterOf f ≡ k → f ≡ k ∷ []
 unfolding letterOf
-letter-one [] k e = absurd (omega arith)
-letter-one (x ∷ []) k e = ap (λ (y : ℕ). y ∷ []) e
-letter-one (x ∷ y ∷ ys) k e = absurd (omega arith)
+letter-one [] k p e = absurd (omega arith)
+letter-one (x ∷ []) k p e = ap (λ (y : ℕ). y ∷ []) e
+letter-one (x ∷ y ∷ ys) k p e = absurd (omega arith)

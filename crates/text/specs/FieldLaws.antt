@@ -137,7 +137,7 @@ kind-reads k fs c = ap letterOf (up-clean (k ∷ []) (tabbed fs ++ (lf ∷ [])) 
 pub kind-exact : (l : List ℕ) (k : ℕ) (fs : List (List ℕ)) → 0 < k → letterOf (fieldAt l 0) ≡ k → Ahead l 1 fs → l ≡ lineOf k fs
 kind-exact l zero fs p h a = absurd (omega arith)
 kind-exact l (suc k) fs p h a =
-    up-rest l ∙ ap (λ (f : List ℕ). f ++ drop (length f) l) (letter-one (upTo l) k h) ∙ ap (λ (s : List ℕ). suc k ∷ s) a
+    up-rest l ∙ ap (λ (f : List ℕ). f ++ drop (length f) l) (letter-one (upTo l) (suc k) (omega arith) h) ∙ ap (λ (s : List ℕ). suc k ∷ s) a
 
 -- ---- how long
 

@@ -1,46 +1,41 @@
-use Rattle.messages.proofs.Reading.{cast-is}
+use Rattle.messages.proofs.Reading.{cast-nil, cast-vote}
 use borrow.Author.Needs.{needs}
 use Rattle.messages.proofs.read.cast_at.Statement.{statement}
 use Rattle.messages.proofs.read.cast_at.Tie as tie
+use Rattle.messages.proofs.read.cast_at.Reads as reads
+use Rattle.messages.proofs.read.cast_at.Lts as lts
+use Rattle.messages.proofs.read.head_at.Reads as head-at-reads
+use Rattle.messages.proofs.read.letter_at.Reads as letter-at-reads
+use Rattle.messages.proofs.read.nil_at.Reads as nil-at-reads
+use Rattle.messages.proofs.read.vote_at.Reads as vote-at-reads
 
-number-at-requires : tie.Need-number-at-requires
-number-at-requires c κs = search needs
-
-entry-at-requires : tie.Need-entry-at-requires
-entry-at-requires c κs = search needs
-
-hex-at-requires : tie.Need-hex-at-requires
-hex-at-requires c κs = search needs
+head-at-requires : tie.Need-head-at-requires
+head-at-requires c κs = search needs
 
 letter-at-requires : tie.Need-letter-at-requires
 letter-at-requires c κs = search needs
 
-mark-of-requires : tie.Need-mark-of-requires
-mark-of-requires c κs = search needs
+nil-at-requires : tie.Need-nil-at-requires
+nil-at-requires c κs = search needs
 
-cast-t16 : tie.Need-cast-t16
-cast-t16 c = search needs
-
-over-requires : tie.Need-over-requires
-over-requires c κs = search needs
+vote-at-requires : tie.Need-vote-at-requires
+vote-at-requires c κs = search needs
 
 returns : tie.Need-returns
-returns c =
-    let j = c .before .before .before .before .before .before .before in
-    let k = j .before .before .before .before .before .before .before in
-    cast-is _ _ _ _ _ _ _ _ (k .before .before .before .before .number-at .ensures .0) (k .before .before .before .entry-at .ensures)
-    (k .before .before .hex-at .ensures) (k .before .letter-at .ensures)
-    (k .mark-of .ensures) (c .over .ensures)
+returns c = let k = c .before .before .before in
+    cast-nil _ _ _ _ (k .before .head-at .ensures) (k .letter-at .ensures) _ (c .before .if1 .taken) (c .nil-at .ensures)
+
+returns-2 : tie.Need-returns-2
+returns-2 c = let k = c .before .before .before in
+    cast-vote _ _ _ _ (k .before .head-at .ensures) (k .letter-at .ensures) _ (c .before .if1 .left) (c .vote-at .ensures)
 
 pub cast-at-spec : {M : Type 1} → statement M
 cast-at-spec =
     tie.close
     (tie.spec
-    number-at-requires
-    entry-at-requires
-    hex-at-requires
+    head-at-requires
     letter-at-requires
-    mark-of-requires
-    cast-t16
-    over-requires
-    returns)
+    nil-at-requires
+    vote-at-requires
+    returns
+    returns-2)

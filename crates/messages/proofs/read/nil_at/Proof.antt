@@ -2,6 +2,12 @@ use Rattle.messages.proofs.Reading.{nil-is}
 use borrow.Author.Needs.{needs}
 use Rattle.messages.proofs.read.nil_at.Statement.{statement}
 use Rattle.messages.proofs.read.nil_at.Tie as tie
+use Rattle.messages.proofs.read.nil_at.Reads as reads
+use Rattle.messages.proofs.read.nil_at.Lts as lts
+use Rattle.entry.proofs.zero.Reads as zero-reads
+use Rattle.messages.proofs.read.got.Reads as got-reads
+use Rattle.messages.proofs.read.row_of.Reads as row-of-reads
+use Rattle.text.proofs.field.over.Reads as over-reads
 
 zero-requires : tie.Need-zero-requires
 zero-requires c κs = search needs
@@ -9,8 +15,14 @@ zero-requires c κs = search needs
 over-requires : tie.Need-over-requires
 over-requires c κs = search needs
 
+row-of-requires : tie.Need-row-of-requires
+row-of-requires c κs = search needs
+
+got-requires : tie.Need-got-requires
+got-requires c κs = search needs
+
 returns : tie.Need-returns
-returns c = nil-is _ _ _ _ _ (c .before .before .zero .ensures) (c .before .over .ensures)
+returns c = nil-is _ (c .before .before .before .before .before .before .before .args .h) _ _ _ _ _ (c .before .before .before .before .zero .ensures) (c .before .before .before .over .ensures) (c .before .row-of .ensures) (c .got .ensures)
 
 pub nil-at-spec : {M : Type 1} → statement M
-nil-at-spec = tie.close (tie.spec zero-requires over-requires returns)
+nil-at-spec = tie.close (tie.spec zero-requires over-requires row-of-requires got-requires returns)

@@ -1,7 +1,16 @@
-use Rattle.messages.proofs.ReadingSetup.{setup-read, setup-none}
+use Rattle.messages.proofs.ReadingSetup.{setup-is}
 use borrow.Author.Needs.{needs}
 use Rattle.messages.proofs.setup.read_setup.Statement.{statement}
 use Rattle.messages.proofs.setup.read_setup.Tie as tie
+use Rattle.messages.proofs.setup.read_setup.Reads as reads
+use Rattle.messages.proofs.setup.read_setup.Lts as lts
+use Rattle.messages.proofs.read.entry_at.Reads as entry-at-reads
+use Rattle.messages.proofs.read.number_at.Reads as number-at-reads
+use Rattle.messages.proofs.setup.opened.Reads as opened-reads
+use Rattle.messages.proofs.setup.sizes_at.Reads as sizes-at-reads
+use Rattle.text.proofs.digits.letter.Reads as letter-reads
+use Rattle.text.proofs.field.field.Reads as field-reads
+use Rattle.text.proofs.field.over.Reads as over-reads
 
 field-requires : tie.Need-field-requires
 field-requires c κs = search needs
@@ -9,50 +18,28 @@ field-requires c κs = search needs
 letter-requires : tie.Need-letter-requires
 letter-requires c κs = search needs
 
+sizes-at-requires : tie.Need-sizes-at-requires
+sizes-at-requires c κs = search needs
+
 number-at-requires : tie.Need-number-at-requires
 number-at-requires c κs = search needs
-
-number-at-requires-2 : tie.Need-number-at-requires-2
-number-at-requires-2 c κs = search needs
-
-letter-at-requires : tie.Need-letter-at-requires
-letter-at-requires c κs = search needs
-
-number-at-requires-3 : tie.Need-number-at-requires-3
-number-at-requires-3 c κs = search needs
 
 entry-at-requires : tie.Need-entry-at-requires
 entry-at-requires c κs = search needs
 
+cast-t11 : tie.Need-cast-t11
+cast-t11 c = search needs
+
 over-requires : tie.Need-over-requires
 over-requires c κs = search needs
 
-cast-t24 : tie.Need-cast-t24
-cast-t24 c = search needs
-
-cast-t25 : tie.Need-cast-t25
-cast-t25 c = search needs
-
-cast-t26 : tie.Need-cast-t26
-cast-t26 c = search needs
+opened-requires : tie.Need-opened-requires
+opened-requires c κs = search needs
 
 returns : tie.Need-returns
-returns c =
-    let j = c .before .before .before .before .before .before .before in
-    let k = j .before .before .before .before .before .before .before .before in
-    setup-read _ _ _ _ _ _ _ _ _ (k .before .before .before .before .before .before .field .ensures)
-    (k .before .before .before .before .before .letter .ensures)
-    (k .before .before .before .before .number-at .ensures .0) (k .before .before .before .number-at2 .ensures .0)
-    (k .before .before .letter-at .ensures) (k .before .number-at3 .ensures .0) (k .entry-at .ensures)
-    (c .before .before .before .before .before .over .ensures) (c .before .before .before .before .if1 .taken)
-
-returns-2 : tie.Need-returns-2
-returns-2 c = let k = c .before .before .before .before .before .before .before .before .before .before .before in
-    setup-none _ _ _ _ _ _ _ _ _ (k .before .before .before .before .before .before .field .ensures)
-    (k .before .before .before .before .before .letter .ensures)
-    (k .before .before .before .before .number-at .ensures .0) (k .before .before .before .number-at2 .ensures .0)
-    (k .before .before .letter-at .ensures) (k .before .number-at3 .ensures .0) (k .entry-at .ensures)
-    (c .before .over .ensures) (c .if1 .left)
+returns c = let k = c .before .before .before .before .before .before .before .before .before in
+    setup-is _ _ _ _ _ _ _ _ (k .before .before .before .before .field .ensures) (k .before .before .before .letter .ensures) (k .before .before .sizes-at .ensures)
+    (k .before .number-at .ensures .0) (k .entry-at .ensures) (c .before .over .ensures) (c .opened .ensures)
 
 pub read-setup-spec : {M : Type 1} → statement M
 read-setup-spec =
@@ -60,14 +47,10 @@ read-setup-spec =
     (tie.spec
     field-requires
     letter-requires
+    sizes-at-requires
     number-at-requires
-    number-at-requires-2
-    letter-at-requires
-    number-at-requires-3
     entry-at-requires
+    cast-t11
     over-requires
-    cast-t24
-    cast-t25
-    cast-t26
-    returns
-    returns-2)
+    opened-requires
+    returns)

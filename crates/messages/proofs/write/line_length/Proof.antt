@@ -1,10 +1,14 @@
 use native.Mathlib.Omega.{arith}
-use mathlib.Core.Path.{refl}
+use mathlib.Core.Path.{refl, ap}
 use mathlib.Core.List.{[]}
+use lib.ListN.{length}
 use Rattle.text.specs.DecimalLaws.{width-le}
-use Rattle.messages.specs.declared.Message.the-variants.{Start, Enter, Propose, Acknowledge, Cast, Request, Confirm}
-use Rattle.messages.specs.Lengths.{number-takes}
-use Rattle.messages.proofs.Writing.{statement-takes, proposal-takes, question-takes, row-takes, told-length}
+use Rattle.text.specs.Fields.{tabbed}
+use Rattle.messages.specs.declared.Head.{Head}
+use Rattle.messages.specs.declared.Message.the-variants.{Start, Enter, Propose, Acknowledge, Cast, Ask, Confirm}
+use Rattle.messages.specs.Lengths.{number-takes, proposal-takes, assent-takes, row-takes, request-takes}
+use Rattle.messages.specs.Lines.{head}
+use Rattle.messages.proofs.Writing.{told-length}
 use borrow.Author.Needs.{needs}
 use Rattle.messages.proofs.write.line_length.Statement.{statement}
 use Rattle.messages.proofs.write.line_length.Tie as tie
@@ -129,30 +133,29 @@ returns-2 c = let m = c .before .before .before .m .given in
 
 returns-3 : tie.Need-returns-3
 returns-3 c = let m = c .before .before .m2 .given in
-    told-length _ (Propose (m .0 .0)) _ (m .1) (proposal-takes (m .0 .0) _ (c .head-length .ensures .0))
+    told-length _ (Propose (m .0 .0)) _ (m .1) (omega (arith, c .head-length .ensures .0, proposal-takes (m .0 .0)))
 
 returns-4 : tie.Need-returns-4
 returns-4 c = let m = c .before .before .m3 .given in
-    told-length _ (Acknowledge (m .0 .0)) _ (m .1) (statement-takes (m .0 .0) _ (c .head-length2 .ensures .0))
+    told-length _ (Acknowledge (m .0 .0)) _ (m .1) (omega (arith, c .head-length2 .ensures .0, assent-takes (m .0 .0)))
 
 returns-5 : tie.Need-returns-5
 returns-5 c = let h = c .before in
     let r = h .before in
-    let t = r .before .before in
-    let m = t .m4 .given in
-    let row = row-takes (m .0 .0) _ _ _ (r .row-head .ensures) (h .head-length3 .ensures .0) (c .vote-length .ensures .0) in
-    told-length _ (Cast (m .0 .0)) _ (m .1) row
+    let m = r .before .before .m4 .given in
+    let same = ap (λ (y : Head). length (tabbed (head y []))) (r .row-head .ensures) in
+    let first = h .head-length3 .ensures .0 in
+    told-length _ (Cast (m .0 .0)) _ (m .1) (omega (arith, first, same, c .vote-length .ensures .0, row-takes (m .0 .0)))
 
 returns-6 : tie.Need-returns-6
 returns-6 c = let h = c .before .before in
-    let t = h .before .before in
-    let m = t .m5 .given in
-    let question = question-takes (m .0 .0) _ _ (h .head-length4 .ensures .0) (c .width2 .ensures) in
-    told-length _ (Request (m .0 .0)) _ (m .1) question
+    let m = h .before .before .m5 .given in
+    let first = h .head-length4 .ensures .0 in
+    told-length _ (Ask (m .0 .0)) _ (m .1) (omega (arith, first, c .width2 .ensures, request-takes (m .0 .0)))
 
 returns-7 : tie.Need-returns-7
 returns-7 c = let m = c .before .before .m6 .given in
-    told-length _ (Confirm (m .0 .0)) _ (m .1) (statement-takes (m .0 .0) _ (c .head-length5 .ensures .0))
+    told-length _ (Confirm (m .0 .0)) _ (m .1) (omega (arith, c .head-length5 .ensures .0, assent-takes (m .0 .0)))
 
 pub line-length-spec : {M : Type 1} → statement M
 line-length-spec =

@@ -31,8 +31,8 @@ returns c = let v = c .before .before in
     let h = a .h in
     let one = seat (h .seat) in
     let sign = mark (h .verified) in
-    let two = tabs _ 1 (one ∷ []) _ _ (sign ∷ []) _ _ (s .put-number .ensures .0) (m .put-mark .ensures .0) in
-    (tabs _ 1 (one ∷ sign ∷ []) _ _ (view (h .view) ∷ []) _ _ two (v .put-number2 .ensures .0), search needs)
+    let two = tabs _ _ (one ∷ []) _ _ (sign ∷ []) _ _ (s .put-number .ensures .0) (m .put-mark .ensures .0) in
+    (tabs _ _ (one ∷ sign ∷ []) _ _ (view (h .view) ∷ []) _ _ two (v .put-number2 .ensures .0), search needs)
 
 pub put-head-spec : {M : Type 1} → statement M
 put-head-spec =

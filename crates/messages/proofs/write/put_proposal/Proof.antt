@@ -26,8 +26,8 @@ returns c = let m = c .before .before in
     let a = h .before .before .before .args in
     let x = a .x in
     let t = entryText (x .entry) in
-    let two = tabs _ 1 (head (x .head) []) _ _ (t ∷ []) _ _ (h .put-head .ensures .0) (e .put-entry .ensures .0) in
-    (tabs _ 1 (head (x .head) (t ∷ [])) _ _ (hex (x .mask) ∷ []) _ _ two (m .put-mask .ensures .0), search needs)
+    let two = tabs _ _ (head (x .head) []) _ _ (t ∷ []) _ _ (h .put-head .ensures .0) (e .put-entry .ensures .0) in
+    (tabs _ _ (head (x .head) (t ∷ [])) _ _ (hex (x .mask) ∷ []) _ _ two (m .put-mask .ensures .0), search needs)
 
 pub put-proposal-spec : {M : Type 1} → statement M
 put-proposal-spec =

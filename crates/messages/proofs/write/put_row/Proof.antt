@@ -27,7 +27,7 @@ returns c = let v = c .before .before in
     let a = r .before .before .before .args in
     let x = a .x in
     let one = become _ _ _ _ _ _ (ap (λ (y : Head). tabbed (head y [])) (r .row-head .ensures)) (h .put-head .ensures .0) in
-    (tabs _ 1 (head (rowHead x) []) _ _ (vote (x .vote .cast) (x .vote)) _ _ one (v .put-vote .ensures .0), search needs)
+    (tabs _ _ (head (rowHead x) []) _ _ (vote (x .vote .cast) (x .vote)) _ _ one (v .put-vote .ensures .0), search needs)
 
 pub put-row-spec : {M : Type 1} → statement M
 put-row-spec =

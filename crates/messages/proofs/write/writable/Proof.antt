@@ -1,7 +1,7 @@
 use mathlib.Core.Path.{sym, ap, _∙_}
 use Rattle.messages.specs.declared.Head.{Head}
 use Rattle.messages.specs.Writer.{seated, writable}
-use Rattle.messages.proofs.Writing.{question-writable}
+use Rattle.messages.proofs.Writing.{request-writable}
 use borrow.Author.Needs.{needs}
 use Rattle.messages.proofs.write.writable.Statement.{statement}
 use Rattle.messages.proofs.write.writable.Tie as tie
@@ -71,7 +71,7 @@ returns-5 c = let r = c .before in
     c .seated3 .ensures ∙ ap (λ (h : Head). seated h) (r .row-head .ensures) ∙ ap writable (sym (t .m3 .given .1))
 
 returns-6 : tie.Need-returns-6
-returns-6 c = question-writable _ _ _ (c .before .seated4 .ensures) (c .before .before .before .m4 .given .1)
+returns-6 c = request-writable _ _ _ (c .before .seated4 .ensures) (c .before .before .before .m4 .given .1)
 
 returns-7 : tie.Need-returns-7
 unfolding writable

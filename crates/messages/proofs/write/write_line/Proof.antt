@@ -1,5 +1,5 @@
-use Rattle.messages.proofs.Writing.{number-is, number-room, answers-refused, answers-0}
-use mathlib.Core.Path.{sym, _∙_}
+use mathlib.Core.Path.{_∙_}
+use Rattle.messages.proofs.Writing.{number-room, answers}
 use borrow.Author.Needs.{needs}
 use Rattle.messages.proofs.write.write_line.Statement.{statement}
 use Rattle.messages.proofs.write.write_line.Tie as tie
@@ -13,23 +13,25 @@ writable-requires c κs = search needs
 writer-number-requires : tie.Need-writer-number-requires
 writer-number-requires c κs = search needs
 
-returns : tie.Need-returns
-returns c = let a = c .before .before .before .before .before .args in
-    let number = number-is (a .buf .now) (a .m) _ _ _ (c .before .before .writable .ensures) (c .before .before .before .line-length .ensures) (c .before .writer-number .ensures) in
-    answers-refused (a .buf .now) (a .m) _ number (c .if1 .taken)
+put-line-if-requires : tie.Need-put-line-if-requires
+put-line-if-requires c κs = let w = c .before in
+    let can = w .before .writable .result in
+    number-room can _ _ _ _ (w .writer-number .ensures) (w .before .before .line-length .ensures)
 
-put-line-requires : tie.Need-put-line-requires
-put-line-requires c κs = let a = c .before .before .before .before .before .before .args in
-    let number = number-is (a .buf .now) (a .m) _ _ _ (c .before .before .before .writable .ensures) (c .before .before .before .before .line-length .ensures) (c .before .before .writer-number .ensures) in
-    number-room (a .buf .now) (a .m) (sym number ∙ c .before .if1 .left)
+told-requires : tie.Need-told-requires
+told-requires c κs = search needs
 
 same-length : tie.Need-same-length
 same-length c = search needs
 
-returns-2 : tie.Need-returns-2
-returns-2 c = let a = c .before .before .before .before .before .before .before .before .before .args in
-    let number = number-is (a .buf .now) (a .m) _ _ _ (c .before .before .before .before .before .before .writable .ensures) (c .before .before .before .before .before .before .before .line-length .ensures) (c .before .before .before .before .before .writer-number .ensures) in
-    answers-0 (a .buf .now) (a .m) _ _ (sym number ∙ c .before .before .before .before .if1 .left) (c .before .before .before .before .before .before .before .line-length .ensures) (c .before .before .put-line .ensures)
+returns : tie.Need-returns
+returns c = let p = c .before .before .before in
+    let w = p .before .before in
+    let l = w .before .before in
+    let a = l .before .before .args in
+    let e = l .line-length .ensures in
+    let both = answers (a .buf .now) (a .m) _ _ _ (w .before .writable .ensures) e (w .writer-number .ensures) in
+    (c .told .ensures ∙ both .0, p .put-line-if .ensures ∙ both .1)
 
 pub write-line-spec : {M : Type 1} → statement M
 write-line-spec =
@@ -38,7 +40,7 @@ write-line-spec =
     line-length-requires
     writable-requires
     writer-number-requires
-    returns
-    put-line-requires
+    put-line-if-requires
+    told-requires
     same-length
-    returns-2)
+    returns)

@@ -1,5 +1,4 @@
 use Rattle.messages.proofs.Writing.{number-order}
-use lib.Dec.{ltb}
 use Prim.Native.Nat.{ℕ}
 use mathlib.Core.Bool.{not, cond}
 use mathlib.Core.Path.{ap, _∙_}
@@ -15,7 +14,8 @@ pick-requires-2 c κs = search needs
 
 returns : tie.Need-returns
 returns c = let a = c .before .before .args in
-    c .pick2 .ensures ∙ ap (λ (k : ℕ). cond (not (a .can)) 21 k) (c .before .pick .ensures) ∙ number-order (a .can) (ltb (a .room) (a .n))
+    let inner = ap (λ (k : ℕ). cond (not (a .can)) 21 k) (c .before .pick .ensures) in
+    c .pick2 .ensures ∙ inner ∙ number-order (a .can) (a .room) (a .n)
 
 pub writer-number-spec : {M : Type 1} → statement M
 writer-number-spec = tie.close (tie.spec pick-requires pick-requires-2 returns)

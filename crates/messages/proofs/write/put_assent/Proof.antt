@@ -3,8 +3,8 @@ use Rattle.entry.specs.Hex.{entryText}
 use Rattle.messages.specs.Lines.{head}
 use Rattle.text.specs.PutLaws.{tabs}
 use borrow.Author.Needs.{needs}
-use Rattle.messages.proofs.write.put_statement.Statement.{statement}
-use Rattle.messages.proofs.write.put_statement.Tie as tie
+use Rattle.messages.proofs.write.put_assent.Statement.{statement}
+use Rattle.messages.proofs.write.put_assent.Tie as tie
 
 put-head-requires : tie.Need-put-head-requires
 put-head-requires c κs = search needs
@@ -21,7 +21,7 @@ returns c = let e = c .before .before in
     let a = h .before .before .before .args in
     let x = a .x in
     let t = entryText (x .entry) in
-    (tabs _ 1 (head (x .head) []) _ _ (t ∷ []) _ _ (h .put-head .ensures .0) (e .put-entry .ensures .0), search needs)
+    (tabs _ _ (head (x .head) []) _ _ (t ∷ []) _ _ (h .put-head .ensures .0) (e .put-entry .ensures .0), search needs)
 
-pub put-statement-spec : {M : Type 1} → statement M
-put-statement-spec = tie.close (tie.spec put-head-requires put-entry-requires same-length returns)
+pub put-assent-spec : {M : Type 1} → statement M
+put-assent-spec = tie.close (tie.spec put-head-requires put-entry-requires same-length returns)

@@ -4,8 +4,8 @@ use Rattle.text.specs.Digits.{decimal}
 use Rattle.messages.specs.Lines.{head}
 use Rattle.text.specs.PutLaws.{tabs}
 use borrow.Author.Needs.{needs}
-use Rattle.messages.proofs.write.put_question.Statement.{statement}
-use Rattle.messages.proofs.write.put_question.Tie as tie
+use Rattle.messages.proofs.write.put_request.Statement.{statement}
+use Rattle.messages.proofs.write.put_request.Tie as tie
 
 put-head-requires : tie.Need-put-head-requires
 put-head-requires c κs = search needs
@@ -29,11 +29,11 @@ returns c = let n = c .before .before in
     let a = h .before .before .before .args in
     let x = a .x in
     let t = entryText (x .entry) in
-    let two = tabs _ 1 (head (x .head) []) _ _ (t ∷ []) _ _ (h .put-head .ensures .0) (e .put-entry .ensures .0) in
-    (tabs _ 1 (head (x .head) (t ∷ [])) _ _ (decimal (x .count) ∷ []) _ _ two (n .put-number .ensures .0), search needs)
+    let two = tabs _ _ (head (x .head) []) _ _ (t ∷ []) _ _ (h .put-head .ensures .0) (e .put-entry .ensures .0) in
+    (tabs _ _ (head (x .head) (t ∷ [])) _ _ (decimal (x .count) ∷ []) _ _ two (n .put-number .ensures .0), search needs)
 
-pub put-question-spec : {M : Type 1} → statement M
-put-question-spec =
+pub put-request-spec : {M : Type 1} → statement M
+put-request-spec =
     tie.close
     (tie.spec
     put-head-requires

@@ -1,0 +1,27 @@
+use Rattle.messages.proofs.Reading.{enter-is}
+use borrow.Author.Needs.{needs}
+use Rattle.messages.proofs.read.enter_at.Statement.{statement}
+use Rattle.messages.proofs.read.enter_at.Tie as tie
+use Rattle.messages.proofs.read.enter_at.Reads as reads
+use Rattle.messages.proofs.read.enter_at.Lts as lts
+use Rattle.messages.proofs.read.got.Reads as got-reads
+use Rattle.messages.proofs.read.number_at.Reads as number-at-reads
+use Rattle.text.proofs.field.over.Reads as over-reads
+
+number-at-requires : tie.Need-number-at-requires
+number-at-requires c κs = search needs
+
+over-requires : tie.Need-over-requires
+over-requires c κs = search needs
+
+cast-t7 : tie.Need-cast-t7
+cast-t7 c = search needs
+
+got-requires : tie.Need-got-requires
+got-requires c κs = search needs
+
+returns : tie.Need-returns
+returns c = enter-is _ _ _ _ _ (c .before .before .before .before .before .number-at .ensures .0) (c .before .before .before .over .ensures) (c .got .ensures)
+
+pub enter-at-spec : {M : Type 1} → statement M
+enter-at-spec = tie.close (tie.spec number-at-requires over-requires cast-t7 got-requires returns)
