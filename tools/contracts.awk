@@ -1,8 +1,9 @@
 # Reads .rt files. Each `pub fn` must ask nothing of its caller and settle all that it answers, in one `ensures`:
 #     r ≡ d                of a value that it returns; `now r ≡ d` where that is a part of lent memory
 #     now (t .exit) ≡ d    of every t that is lent to be written
-# or both, as (..) × (..), with r nowhere in a d. Any two answers that meet it are then equal (`one-answer` and `two-answers`,
-# crates/base/specs/Unique.antt). Prints each function that does not, and how many there are; the exit status is 1 where one does not.
+# or two of them, as (..) × (..). A d speaks of what was there at entry: r, `.exit`, an arrow and a choice are not allowed in it. Any
+# two answers that meet such a contract are equal (`one-answer` and `two-answers`, crates/base/specs/Unique.antt).
+# Prints each function that does not, and how many there are; the exit status is 1 where one does not.
 
 function bad(why) {
     printf "%s:%d: %s %s\n", FILENAME, at, name, why
@@ -16,17 +17,18 @@ function part(text,    cut, left, right) {
     right = " " substr(text, cut + length(" ≡ ")) " "
     gsub(/[()]/, " ", right)
     if (!cut) bad("does not say what its answer is")
-    else if (index(right, " " binder " ")) bad("says its answer by its answer")
+    else if (index(right, " " binder " ") || index(right, " .exit ")) bad("says its answer by its answer")
+    else if (right ~ /→|×|⊎|≡/) bad("says more than what its answer is")
     settled = settled " <" left ">"
 }
 
 function look(    text, cut, rest, lent) {
-    if (head !~ /ensures/) {
+    if (head !~ / ensures /) {
         bad("has no ensures")
         return
     }
     text = head
-    sub(/^.*ensures \{ λ /, "", text)
+    sub(/^.* ensures \{ λ /, "", text)
     binder = text
     sub(/\..*/, "", binder)
     sub(/^[^⌜]*⌜ /, "", text)
@@ -40,7 +42,7 @@ function look(    text, cut, rest, lent) {
     } else part(text)
     if (head ~ /\) -> / && !index(settled, "<" binder ">") && !index(settled, "<now " binder ">")) bad("does not say what it returns")
     rest = head
-    while (match(rest, /[a-z_]+: &('[a-z]+ )?mut /)) {
+    while (match(rest, /[a-z_][a-z_0-9]*: &('[a-z]+ )?mut /)) {
         lent = substr(rest, RSTART, RLENGTH)
         sub(/:.*/, "", lent)
         if (!index(settled, "<now (" lent " .exit)>")) bad("does not say what becomes of " lent)
@@ -58,16 +60,18 @@ function look(    text, cut, rest, lent) {
     functions++
 }
 
+inside { head = head " " $0 }
+
 inside && /^ *requires/ { bad("asks something of its caller") }
 
-inside && /^ *\{ *$/ {
+# The body opens on a line of its own behind a contract, and at the end of a line where there is none.
+inside && (/^ *\{ *$/ || (/\{ *$/ && !/ensures|requires/) || /^ *pub .*\{.*\} *$/) {
     look()
     inside = 0
 }
 
-inside { head = head " " $0 }
-
 END {
+    if (inside) bad("has no body")
     printf "%d public functions looked at\n", functions
     exit failed
 }

@@ -13,14 +13,12 @@ use Rattle.text.specs.HexLaws.{hex-length}
 use Rattle.text.specs.Put.{room, placed}
 use Rattle.text.specs.PutLaws.{placed-room, placed-none, puts-placed, put-then}
 use Rattle.entry.specs.declared.Entry.{Entry}
-use Rattle.entry.specs.declared.hex.EntryField.{EntryField}
 use Rattle.entry.specs.Entry.{ofWords, zeroEntry}
-use Rattle.entry.specs.Hex.{entryText, entryField, IsEntry}
-use Rattle.entry.specs.HexLaws.{text-words, text-length, entryDigits}
+use Rattle.entry.specs.Hex.{entryText, entryDigits, kept, entryField, IsEntry}
+use Rattle.entry.specs.HexLaws.{text-words, text-length}
 
 -- A field of less than a word holds no entry.
-pub short-field : (f : List ℕ) → length f < wordDigits
-    → _≡_ {A = EntryField} (record { good = false; entry = zeroEntry }) (entryField f)
+pub short-field : (f : List ℕ) → length f < wordDigits → kept false zeroEntry ≡ entryField f
 unfolding entryField hexOf
 short-field f h =
     sym (simp (
@@ -31,7 +29,7 @@ short-field f h =
 -- Of a longer one the two parts are read apart.
 pub two-words : (f : List ℕ) (h l : Number) → h ≡ hexOf (take wordDigits f)
     → l ≡ hexOf (take (length f - wordDigits) (drop wordDigits f))
-    → _≡_ {A = EntryField} (record { good = h .good && l .good; entry = ofWords (h .value) (l .value) }) (entryField f)
+    → kept (h .good && l .good) (ofWords (h .value) (l .value)) ≡ entryField f
 unfolding entryField
 two-words f h l a b =
     let rest : take (length f - wordDigits) (drop wordDigits f) ≡ drop wordDigits f =

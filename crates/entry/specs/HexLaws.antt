@@ -1,5 +1,5 @@
 -- The text of an entry: two words of hex digits, written and read back, both ways.
-use Prim.Native.Nat.{ℕ, zero, suc, _*_, _/_, _%_, _^_, _<_}
+use Prim.Native.Nat.{ℕ, zero, suc, _/_, _%_, _^_, _<_}
 use mathlib.Core.Path.{_≡_, refl, sym, ap, ap₂, _∙_}
 use mathlib.Core.Bool.{true}
 use mathlib.Core.List.{List, [], _∷_, _++_}
@@ -14,8 +14,11 @@ use Rattle.text.specs.Digits.{digits, hexChar, hex, hexOf, wordDigits}
 use Rattle.text.specs.DigitLaws.{more-off}
 use Rattle.text.specs.HexLaws.{hex-length, hex-reads, hex-exact}
 use Rattle.entry.specs.declared.Entry.{Entry}
-use Rattle.entry.specs.Entry.{zeroEntry, lowBytes, wordBytes}
-use Rattle.entry.specs.Hex.{bytesText, entryText, entryField, IsEntry}
+use Rattle.entry.specs.Entry.{lowBytes, wordBytes, ofWords, zeroEntry}
+use Rattle.entry.specs.Hex.{bytesText, entryText, entryDigits, entryField, IsEntry}
+
+pub zero-is-entry : IsEntry zeroEntry
+zero-is-entry = record { hi = lit< tt; lo = lit< tt }
 
 -- ---- two digits a byte are the digits of the word
 
@@ -60,13 +63,6 @@ text-words e i =
     text-append (wordBytes (e .hi)) (wordBytes (e .lo))
     ∙ ap₂ _++_ (word-text (e .hi) (i .hi)) (word-text (e .lo) (i .lo))
 
-pub zero-is-entry : IsEntry zeroEntry
-zero-is-entry = record { hi = lit< tt; lo = lit< tt }
-
--- "32 .. lowercase hex digits"
-abbrev pub entryDigits : ℕ
-entryDigits = 2 * 16
-
 pub text-length : (e : Entry) → length (entryText e) ≡ entryDigits
 unfolding entryText
 text-length e = refl
@@ -93,8 +89,12 @@ entry-reads e i =
 pub entry-exact : (f : List ℕ) → entryField f .good ≡ true → (f ≡ entryText (entryField f .entry)) × IsEntry (entryField f .entry)
 unfolding entryField
 entry-exact f h =
-    let both = and-true (hexOf (take wordDigits f) .good) (hexOf (drop wordDigits f) .good) h in
+    let hi = hexOf (take wordDigits f) in
+    let lo = hexOf (drop wordDigits f) in
+    let both = and-true (hi .good) (lo .good) h in
     let high = hex-exact (take wordDigits f) (both .0) in
     let low = hex-exact (drop wordDigits f) (both .1) in
-    let is : IsEntry (entryField f .entry) = record { hi = high .1; lo = low .1 } in
-    (sym (take-append-drop wordDigits f) ∙ ap₂ _++_ (high .0) (low .0) ∙ sym (text-words (entryField f .entry) is), is)
+    let e = ofWords (hi .value) (lo .value) in
+    let is : IsEntry e = record { hi = high .1; lo = low .1 } in
+    let text = sym (take-append-drop wordDigits f) ∙ ap₂ _++_ (high .0) (low .0) ∙ sym (text-words e is) in
+    rw h (text, is)

@@ -1,9 +1,10 @@
 // The text of an entry: two hex digits a byte. Whoever reads or writes one never sees how wide an entry is.
 ghost use mathlib.Core.Path.{_≡_};
-ghost use Rattle.entry.specs.Hex.{entryField, entryText};
+ghost use Rattle.entry.specs.Hex.{kept, entryField, entryText};
 ghost use Rattle.text.specs.Put.{placed};
 use crate::Entry;
 use crate::SIZE;
+use crate::zero;
 use text::WORD;
 use text::digits::hex;
 use text::put::has_room;
@@ -12,10 +13,26 @@ use text::put::put_hex;
 // Digits of an entry.
 pub const DIGITS: usize = 2 * SIZE;
 
-// The entry that a field holds. Where it holds none it is not good.
+// The entry that a field holds. Where it holds none it is not good, and its entry the zero entry.
 pub struct EntryField {
     pub good: bool,
     pub entry: Entry,
+}
+
+fn kept(good: bool, e: Entry) -> EntryField
+    ensures { λ r. ⌜ r ≡ kept good e ⌝ }
+{
+    if good {
+        EntryField {
+            good: true,
+            entry: e,
+        }
+    } else {
+        EntryField {
+            good: false,
+            entry: zero(),
+        }
+    }
 }
 
 pub fn read_entry(t: &[u8]) -> EntryField
@@ -23,20 +40,15 @@ pub fn read_entry(t: &[u8]) -> EntryField
 {
     let n = t.len();
     if n < WORD {
-        return EntryField {
-            good: false,
-            entry: Entry { hi: 0, lo: 0 },
-        };
+        return kept(false, zero());
     }
     let hi = hex(&t[0..WORD]);
     let lo = hex(&t[WORD..n]);
-    EntryField {
-        good: hi.good & lo.good,
-        entry: Entry {
-            hi: hi.value,
-            lo: lo.value,
-        },
-    }
+    let e = Entry {
+        hi: hi.value,
+        lo: lo.value,
+    };
+    kept(hi.good & lo.good, e)
 }
 
 // The digits from `at` on; none of them where they have no room.

@@ -1,12 +1,11 @@
 -- What the code reads, field by field, is what the definitions say.
 use Prim.Native.Nat.{ℕ, _+_, _≤_}
-use mathlib.Core.Path.{_≡_, refl, sym, ap, ap₂, _∙_, subst}
+use mathlib.Core.Path.{_≡_, sym, ap, ap₂, _∙_, subst}
 use mathlib.Core.Bool.{Bool, true, false, _&&_, cond}
 use mathlib.Core.List.{List}
 use lib.Dec.{eqb}
 use lib.ListN.{length}
 use borrow.Author.Tests.{eq-eqb, ne-eqb}
-use Rattle.text.specs.Digits.{letterOf}
 use Rattle.text.specs.Fields.{fieldAt, placeBehind, behind, endBehind, over}
 use Rattle.text.specs.FieldEnds.{end-behind-le}
 use Rattle.entry.specs.declared.Entry.{Entry}
@@ -86,7 +85,8 @@ pub nil-is : (t : List ℕ) (h : HeadAt) (e : ℕ) (o : Bool) (z : Entry) (w : R
 unfolding nilAt
 nil-is t h e o z w r a b c q = q ∙ simp (c, b, a)
 
-pub vote-is : (t : List ℕ) (h : HeadAt) (u : NumberAt) (x : EntryAt) (c : NumberAt) (m : LetterAt) (k : Mark) (o : Bool) (w : Row) (r : Line)
+pub vote-is : (t : List ℕ) (h : HeadAt) (u : NumberAt) (x : EntryAt) (c : NumberAt) (m : LetterAt) (k : Mark) (o : Bool) (w : Row)
+    (r : Line)
     → u ≡ numberAt t (h .end) topView → x ≡ entryAt t (u .end) → c ≡ hexAt t (x .end) → m ≡ letterAt t (c .end)
     → k ≡ markOf (m .letter) → o ≡ over t (m .end)
     → w ≡ rowOf (h .head) (record {

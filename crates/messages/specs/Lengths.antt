@@ -10,8 +10,8 @@ use Rattle.text.specs.Digits.{decimal, wordDigits, hex, width}
 use Rattle.text.specs.FieldLaws.{tabbed-length, line-length}
 use Rattle.text.specs.Fields.{tabbed}
 use Rattle.text.specs.HexLaws.{hex-length}
-use Rattle.entry.specs.Hex.{entryText}
-use Rattle.entry.specs.HexLaws.{entryDigits, text-length}
+use Rattle.entry.specs.Hex.{entryText, entryDigits}
+use Rattle.entry.specs.HexLaws.{text-length}
 use Rattle.entry.specs.declared.Entry.{Entry}
 use Rattle.votes.specs.declared.Row.{Row}
 use Rattle.votes.specs.declared.Vote.{Vote}

@@ -180,7 +180,8 @@ module _ (t : List ℕ) (e : ℕ) where
   unfolding messageAt
   message-exact k =
       let a = assentAt t e in
-      either k acknowledgeKind _ _ (got-exact (a .good) (Acknowledge (a .assent)) (λ g. let s = assent-exact g in (s .0, (s .1, refl))))
+      either k acknowledgeKind _ _
+      (got-exact (a .good) (Acknowledge (a .assent)) (λ g. let s = assent-exact g in (s .0, (s .1, refl))))
       (either k castKind _ _ cast-exact
       (either k proposeKind _ _ propose-exact
       (either k confirmKind _ _ (got-exact (a .good) (Confirm (a .assent)) (λ g. let s = assent-exact g in (s .0, (s .1, refl))))

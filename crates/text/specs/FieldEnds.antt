@@ -1,6 +1,6 @@
 -- How far a field reaches: what the finder's loop and its callers ask for.
-use Prim.Native.Nat.{ℕ, _+_, _-_, _≤_, _<_}
-use mathlib.Core.Path.{_≡_, refl, ap}
+use Prim.Native.Nat.{ℕ, suc, _+_, _≤_, _<_}
+use mathlib.Core.Path.{_≡_, refl, sym, ap, _∙_}
 use mathlib.Core.Bool.{Bool, true, false, _&&_, _||_, cond}
 use mathlib.Core.List.{List, [], _∷_}
 use native.Mathlib.Omega.{arith}
@@ -8,14 +8,14 @@ use native.Mathlib.Numerals.{add-one}
 use lib.Dec.{eqb, ltb}
 use lib.ListN.{length, take, drop, getD, drop-of-length-le, length-drop}
 use lib.Seq.{drop-cons}
-use borrow.Author.Tests.{ltb-true, eqb-true, eq-eqb}
-use Rattle.base.specs.Tests.{same-test}
-use Rattle.text.specs.Fields.{tab, lf, upTo, fieldAt, placeBehind, behind, endBehind}
+use mir.Val.{boolByte}
+use borrow.Author.Tests.{ltb-true}
+use Rattle.text.specs.Fields.{tab, lf, ending, upTo, fieldAt, placeBehind, behind, endBehind}
 
 -- A field is the front of its text.
 pub up-take : (l : List ℕ) → take (length (upTo l)) l ≡ upTo l
 up-take [] = refl
-up-take (b ∷ bs) = go (up-take bs) (eqb b tab || eqb b lf)
+up-take (b ∷ bs) = go (up-take bs) (eqb b tab || ltb 0 (ending (b ∷ bs)))
   where
     go : take (length (upTo bs)) bs ≡ upTo bs → (t : Bool)
         → take (length (cond t [] (b ∷ upTo bs))) (b ∷ bs) ≡ cond t [] (b ∷ upTo bs)
@@ -24,7 +24,7 @@ up-take (b ∷ bs) = go (up-take bs) (eqb b tab || eqb b lf)
 
 up-le : (l : List ℕ) → length (upTo l) ≤ length l
 up-le [] = omega arith
-up-le (b ∷ bs) = go (up-le bs) (eqb b tab || eqb b lf)
+up-le (b ∷ bs) = go (up-le bs) (eqb b tab || ltb 0 (ending (b ∷ bs)))
   where
     go : length (upTo bs) ≤ length bs → (t : Bool) → length (cond t [] (b ∷ upTo bs)) ≤ length (b ∷ bs)
     go ih true = omega arith
@@ -50,18 +50,40 @@ end-behind-le s e = end-le s (placeBehind s e) (place-le s e)
 pub field-out : (s : List ℕ) (i : ℕ) → length s ≤ i → fieldAt s i ≡ []
 field-out s i h = let n : drop i s ≡ [] = drop-of-length-le s {i = i} h in simp n
 
--- One that starts where a tab or an LF stands is empty; any other byte belongs to it.
-pub end-here : (s : List ℕ) (i : ℕ) → i < length s → (eqb (getD s i 0) tab || eqb (getD s i 0) lf) ≡ true
-    → i + length (fieldAt s i) ≡ i
-end-here s i h e = rw (drop-cons s i 0 h, e) (omega arith)
+-- One that starts where a tab or a line's end stands is empty; any other byte belongs to it.
+module _ (s : List ℕ) (i : ℕ) (h : i < length s) (k : ℕ) (p : k ≡ ending (drop i s)) where
+  test : (t : Bool) → (eqb (getD s i 0) tab || ltb 0 k) ≡ t
+      → (eqb (getD s i 0) tab || ltb 0 (ending (getD s i 0 ∷ drop (suc i) s))) ≡ t
+  test t e = ap (λ (n : ℕ). eqb (getD s i 0) tab || ltb 0 n) (sym (p ∙ ap ending (drop-cons s i 0 h))) ∙ e
 
-pub end-on : (s : List ℕ) (i : ℕ) → i < length s → (eqb (getD s i 0) tab || eqb (getD s i 0) lf) ≡ false
-    → i + length (fieldAt s i) ≡ i + 1 + length (fieldAt s (i + 1))
-end-on s i h e = rw (drop-cons s i 0 h, e, add-one) (omega (arith, add-one i))
+  pub end-here : (eqb (getD s i 0) tab || ltb 0 k) ≡ true → i + length (fieldAt s i) ≡ i
+  end-here e = rw (drop-cons s i 0 h, test true e) (omega arith)
 
--- One byte is left where the place behind it is the end.
-pub left-one : (n e : ℕ) → e < n → eqb (n - e) 1 ≡ eqb n (e + 1)
-left-one n e h =
-    same-test (eqb (n - e) 1) (eqb n (e + 1))
-    (λ t. let o = eqb-true (n - e) 1 t in eq-eqb n (e + 1) (omega arith))
-    (λ t. let o = eqb-true n (e + 1) t in eq-eqb (n - e) 1 (omega arith))
+  pub end-on : (eqb (getD s i 0) tab || ltb 0 k) ≡ false → i + length (fieldAt s i) ≡ i + 1 + length (fieldAt s (i + 1))
+  end-on e = rw (drop-cons s i 0 h, test false e, add-one) (omega (arith, add-one i))
+
+-- ---- the end of a line
+
+ending-le : (l : List ℕ) → ending l ≤ length l
+ending-le [] = omega arith
+ending-le (b ∷ bs) = go (eqb b lf)
+  where
+    go : (t : Bool) → cond t 1 0 ≤ length (b ∷ bs)
+    go true = omega arith
+    go false = omega arith
+
+-- Past the end of the text no line ends.
+pub ending-out : (s : List ℕ) (i : ℕ) → length s ≤ i → ending (drop i s) ≡ 0
+ending-out s i h = ap ending (drop-of-length-le s {i = i} h)
+
+-- Within it the byte there tells.
+pub ending-here : (s : List ℕ) (i : ℕ) → i < length s → ending (drop i s) ≡ boolByte (eqb (getD s i 0) lf)
+ending-here s i h = ap ending (drop-cons s i 0 h) ∙ go (eqb (getD s i 0) lf)
+  where
+    go : (t : Bool) → cond t 1 0 ≡ boolByte t
+    go true = refl
+    go false = refl
+
+-- Where both the place and the text are below m, so is the place behind the line's end.
+pub ending-below : (s : List ℕ) (i m : ℕ) → i < m → length s < m → i + ending (drop i s) < m
+ending-below s i m h l = omega (arith, ending-le (drop i s), length-drop i s)

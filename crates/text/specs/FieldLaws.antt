@@ -1,5 +1,5 @@
 -- Fields written and read back, and what was read was written so.
-use Prim.Native.Nat.{ℕ, zero, suc, _+_, _-_, _<_}
+use Prim.Native.Nat.{ℕ, suc, _+_, _-_, _<_}
 use mathlib.Core.Path.{_≡_, refl, sym, ap, ap₂, _∙_, subst}
 use mathlib.Core.Bool.{Bool, true, false, _&&_, _||_, cond}
 use mathlib.Core.List.{List, [], _∷_, _++_, append-assoc}
@@ -8,15 +8,15 @@ use lib.Dec.{eqb, ltb}
 use lib.ListN.{length, drop, getD, length-append, length-drop}
 use lib.Seq.{drop-cons, drop-length, drop-append-seam, getD-drop, drop-drop}
 use borrow.Author.Tests.{ltb-true, eqb-true, lt-ltb, eq-eqb}
-use Rattle.base.specs.Tests.{and-true}
+use Rattle.base.specs.Tests.{and-true, or-false}
 use Rattle.text.specs.Clean.{Clean}
 use Rattle.text.specs.Digits.{letterOf}
 use Rattle.text.specs.DigitLaws.{Begins, letter-one}
-use Rattle.text.specs.Fields.{tab, lf, tabbed, lineOf, upTo, fieldAt, placeBehind, behind, endBehind, over}
+use Rattle.text.specs.Fields.{tab, lf, lineEnd, tabbed, lineOf, ending, upTo, fieldAt, placeBehind, behind, endBehind, over}
 
 -- From place e on the text is these fields, each behind a tab, and the line's end.
 abbrev pub Ahead : List ℕ → ℕ → List (List ℕ) → Type 0
-Ahead t e fs = drop e t ≡ tabbed fs ++ (lf ∷ [])
+Ahead t e fs = drop e t ≡ tabbed fs ++ lineEnd
 
 -- ---- the byte at a place
 
@@ -41,19 +41,23 @@ from-place t e y h g =
 -- ---- the field at the front of a text
 
 -- What stands behind a field: a tab, or the line's end.
-stops : (fs : List (List ℕ)) → upTo (tabbed fs ++ (lf ∷ [])) ≡ []
+stops : (fs : List (List ℕ)) → upTo (tabbed fs ++ lineEnd) ≡ []
 stops [] = refl
 stops (f ∷ fs) = refl
+
+-- A byte that is neither tab nor LF goes on.
+goes-on : (b : ℕ) (bs : List ℕ) → (eqb b tab || eqb b lf) ≡ false → (eqb b tab || ltb 0 (ending (b ∷ bs))) ≡ false
+goes-on b bs c = let o = or-false (eqb b tab) (eqb b lf) c in simp (o .0, o .1)
 
 -- A clean text is the field, where what is behind it stops one.
 up-clean : (f r : List ℕ) → Clean f → upTo r ≡ [] → upTo (f ++ r) ≡ f
 up-clean [] r c h = h
-up-clean (b ∷ bs) r c h = simp (c .0, up-clean bs r (c .1) h)
+up-clean (b ∷ bs) r c h = simp (goes-on b (bs ++ r) (c .0), up-clean bs r (c .1) h)
 
 -- A text is the field at its front and the rest.
 up-rest : (s : List ℕ) → s ≡ upTo s ++ drop (length (upTo s)) s
 up-rest [] = refl
-up-rest (b ∷ bs) = go (eqb b tab || eqb b lf) (up-rest bs)
+up-rest (b ∷ bs) = go (eqb b tab || ltb 0 (ending (b ∷ bs))) (up-rest bs)
   where
     go : (c : Bool) → bs ≡ upTo bs ++ drop (length (upTo bs)) bs
         → b ∷ bs ≡ cond c [] (b ∷ upTo bs) ++ drop (length (cond c [] (b ∷ upTo bs))) (b ∷ bs)
@@ -73,8 +77,8 @@ pub behind-reads : (t : List ℕ) (e : ℕ) (f : List ℕ) (fs : List (List ℕ)
     → (behind t e ≡ f) × Ahead t (endBehind t e) fs
 unfolding behind endBehind
 behind-reads t e f fs h c =
-    let rest = tabbed fs ++ (lf ∷ []) in
-    let s : drop e t ≡ tab ∷ (f ++ rest) = h ∙ ap (λ (l : List ℕ). tab ∷ l) (append-assoc f (tabbed fs) (lf ∷ [])) in
+    let rest = tabbed fs ++ lineEnd in
+    let s : drop e t ≡ tab ∷ (f ++ rest) = h ∙ ap (λ (l : List ℕ). tab ∷ l) (append-assoc f (tabbed fs) lineEnd) in
     let p : placeBehind t e ≡ e + 1 = place-tab t e (f ++ rest) s in
     let d : drop (placeBehind t e) t ≡ f ++ rest = ap (λ (k : ℕ). drop k t) p ∙ at-place t e tab (f ++ rest) s .1 .1 in
     let field : behind t e ≡ f = ap upTo d ∙ up-clean f rest c (stops fs) in
@@ -108,36 +112,43 @@ pub behind-written : (t : List ℕ) (e : ℕ) (f : List ℕ) (fs : List (List �
 behind-written t e f fs b n h =
     behind-exact t e (subst (λ (g : List ℕ). 0 < length g) (sym b) n)
     ∙ ap₂ (λ (g s : List ℕ). tab ∷ (g ++ s)) b h
-    ∙ ap (λ (l : List ℕ). tab ∷ l) (sym (append-assoc f (tabbed fs) (lf ∷ [])))
+    ∙ ap (λ (l : List ℕ). tab ∷ l) (sym (append-assoc f (tabbed fs) lineEnd))
 
 -- ---- the end of the line
+
+-- A text that a line's end fills is what is written as one.
+only-end : (s : List ℕ) → 0 < ending s → ending s ≡ length s → s ≡ lineEnd
+only-end [] p q = absurd (omega arith)
+only-end (b ∷ bs) p q = go (eqb b lf) refl bs p q
+  where
+    go : (t : Bool) → eqb b lf ≡ t → (bs : List ℕ) → 0 < cond t 1 0 → cond t 1 0 ≡ length (b ∷ bs) → b ∷ bs ≡ lineEnd
+    go true e [] p q = ap (λ (x : ℕ). x ∷ []) (eqb-true b lf e)
+    go true e (c ∷ cs) p q = absurd (omega arith)
+    go false e bs p q = absurd (omega arith)
 
 -- A line that ends at e is over there, and only such a line.
 pub over-reads : (t : List ℕ) (e : ℕ) → Ahead t e [] → over t e ≡ true
 over-reads t e h =
-    let b = at-place t e lf [] h in
-    let long : length t - (e + 1) ≡ 0 = sym (length-drop (e + 1) t) ∙ ap length (b .1 .1) in
-    simp (lt-ltb e (length t) (b .0), b .1 .0, eq-eqb (length t) (e + 1) (omega arith))
+    let long : length t - e ≡ 1 = sym (length-drop e t) ∙ ap length h in
+    rw h (eq-eqb (e + 1) (length t) (omega arith))
 
 pub over-exact : (t : List ℕ) (e : ℕ) → over t e ≡ true → Ahead t e []
 over-exact t e h =
-    let a = and-true (ltb e (length t)) (eqb (getD t e 0) lf && eqb (length t) (e + 1)) h in
-    let b = and-true (eqb (getD t e 0) lf) (eqb (length t) (e + 1)) (a .1) in
-    let end : e + 1 ≡ length t = sym (eqb-true (length t) (e + 1) (b .1)) in
-    from-place t e lf (ltb-true e (length t) (a .0)) (eqb-true (getD t e 0) lf (b .0))
-    ∙ ap (λ (l : List ℕ). lf ∷ l) (ap (λ (k : ℕ). drop k t) end ∙ drop-length t)
+    let n = ending (drop e t) in
+    let b = and-true (ltb 0 n) (eqb (e + n) (length t)) h in
+    let end : e + n ≡ length t = eqb-true (e + n) (length t) (b .1) in
+    only-end (drop e t) (ltb-true 0 n (b .0)) (omega (arith, length-drop e t))
 
 -- ---- the kind, which is the first field
 
 -- The kind that was written is read, and a kind that was read was written before the fields.
 pub kind-reads : (k : ℕ) (fs : List (List ℕ)) → (eqb k tab || eqb k lf) ≡ false → letterOf (fieldAt (lineOf k fs) 0) ≡ k
 unfolding letterOf
-kind-reads k fs c = ap letterOf (up-clean (k ∷ []) (tabbed fs ++ (lf ∷ [])) (c, tt) (stops fs))
+kind-reads k fs c = ap letterOf (up-clean (k ∷ []) (tabbed fs ++ lineEnd) (c, tt) (stops fs))
 
 pub kind-exact : (l : List ℕ) (k : ℕ) (fs : List (List ℕ)) → 0 < k → letterOf (fieldAt l 0) ≡ k → Ahead l 1 fs → l ≡ lineOf k fs
-kind-exact l zero fs p h a = absurd (omega arith)
-kind-exact l (suc k) fs p h a =
-    up-rest l ∙ ap (λ (f : List ℕ). f ++ drop (length f) l) (letter-one (upTo l) (suc k) (omega arith) h) ∙ ap (λ (s : List ℕ). suc k ∷ s) a
+kind-exact l k fs p h a =
+    up-rest l ∙ ap (λ (f : List ℕ). f ++ drop (length f) l) (letter-one (upTo l) k p h) ∙ ap (λ (s : List ℕ). k ∷ s) a
 
 -- ---- how long
 
@@ -145,6 +156,6 @@ kind-exact l (suc k) fs p h a =
 pub tabbed-length : (f : List ℕ) (fs : List (List ℕ)) → length (tabbed (f ∷ fs)) ≡ 1 + length f + length (tabbed fs)
 tabbed-length f fs = let n = length-append f (tabbed fs) in omega arith
 
--- Beside its fields a line has its kind and its LF.
+-- Beside its fields a line has its kind and its end.
 pub line-length : (k : ℕ) (fs : List (List ℕ)) → length (lineOf k fs) ≡ 2 + length (tabbed fs)
-line-length k fs = let n = length-append (tabbed fs) (lf ∷ []) in omega arith
+line-length k fs = let n = length-append (tabbed fs) lineEnd in omega arith

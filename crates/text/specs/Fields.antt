@@ -11,6 +11,10 @@ tab = 9
 abbrev pub lf : ℕ
 lf = 0x0A
 
+-- A line's end, as it is written.
+abbrev pub lineEnd : List ℕ
+lineEnd = lf ∷ []
+
 -- ---- written
 
 -- Each field behind a tab.
@@ -18,16 +22,21 @@ abbrev pub tabbed : List (List ℕ) → List ℕ
 tabbed [] = []
 tabbed (f ∷ fs) = tab ∷ (f ++ tabbed fs)
 
--- A line: a kind of one byte, its fields, one LF.
+-- A line: a kind of one byte, its fields, its end.
 abbrev pub lineOf : ℕ → List (List ℕ) → List ℕ
-lineOf kind fs = kind ∷ (tabbed fs ++ (lf ∷ []))
+lineOf kind fs = kind ∷ (tabbed fs ++ lineEnd)
 
 -- ---- read
+
+-- How many bytes of a line's end stand at the front of a text: none, or its one LF.
+abbrev pub ending : List ℕ → ℕ
+ending [] = 0
+ending (b ∷ bs) = cond (eqb b lf) 1 0
 
 -- "A field ends at the first tab or at the end of the line, whichever is earlier": the field at the front of a text.
 abbrev pub upTo : List ℕ → List ℕ
 upTo [] = []
-upTo (b ∷ bs) = cond (eqb b tab || eqb b lf) [] (b ∷ upTo bs)
+upTo (b ∷ bs) = cond (eqb b tab || ltb 0 (ending (b ∷ bs))) [] (b ∷ upTo bs)
 
 -- The field that starts at place p.
 abbrev pub fieldAt : List ℕ → ℕ → List ℕ
@@ -44,6 +53,6 @@ behind t e = fieldAt t (placeBehind t e)
 unfoldable pub endBehind : List ℕ → ℕ → ℕ
 endBehind t e = placeBehind t e + length (behind t e)
 
--- The line is over at place e: its LF stands there, and nothing behind it.
+-- The line is over at place e: its end stands there, and nothing behind it.
 abbrev pub over : List ℕ → ℕ → Bool
-over t e = ltb e (length t) && (eqb (getD t e 0) lf && eqb (length t) (e + 1))
+over t e = ltb 0 (ending (drop e t)) && eqb (e + ending (drop e t)) (length t)

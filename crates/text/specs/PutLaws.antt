@@ -81,15 +81,9 @@ leaf b p q c f r d x y =
     become b p (tab ∷ f) (tabbed (f ∷ [])) r d (ap (λ (t : List ℕ). tab ∷ t) (sym (append-nil f)))
     (put-then b p (tab ∷ []) q c f r d x y)
 
--- Fields behind a text, then more of them.
-pub more : (b : List ℕ) (p : ℕ) (x : List ℕ) (fs : List (List ℕ)) (q : ℕ) (c : List ℕ) (gs : List (List ℕ)) (r : ℕ) (d : List ℕ)
-    → Puts b p (x ++ tabbed fs) q c → Puts c q (tabbed gs) r d → Puts b p (x ++ tabbed (fs ++ gs)) r d
-more b p x fs q c gs r d f g =
-    become b p (x ++ tabbed fs ++ tabbed gs) (x ++ tabbed (fs ++ gs)) r d
-    (append-assoc x (tabbed fs) (tabbed gs) ∙ ap (λ (t : List ℕ). x ++ t) (sym (tabbed-append fs gs)))
-    (put-then b p (x ++ tabbed fs) q c (tabbed gs) r d f g)
-
 -- Fields, then more of them.
 pub tabs : (b : List ℕ) (p : ℕ) (fs : List (List ℕ)) (q : ℕ) (c : List ℕ) (gs : List (List ℕ)) (r : ℕ) (d : List ℕ)
     → Puts b p (tabbed fs) q c → Puts c q (tabbed gs) r d → Puts b p (tabbed (fs ++ gs)) r d
-tabs b p fs q c gs r d f g = more b p [] fs q c gs r d f g
+tabs b p fs q c gs r d f g =
+    become b p (tabbed fs ++ tabbed gs) (tabbed (fs ++ gs)) r d (sym (tabbed-append fs gs))
+    (put-then b p (tabbed fs) q c (tabbed gs) r d f g)

@@ -26,7 +26,8 @@ fn is_letter(x: u8) -> bool
     (b'a' <= x) & (x <= b'f')
 }
 
-// Whether x is a lowercase hex digit.
+// Whether x is a lowercase hex digit. Here and in `nibble` nothing branches, so that the sixteen steps of `hex` are unrolled
+// without jumps.
 fn is_hex(x: u8) -> bool
     ensures { λ r. ⌜ r ≡ not (eqb (hexDigit x) 16) ⌝ }
 {
@@ -56,7 +57,7 @@ fn kept(good: bool, value: u64) -> Number
     }
 }
 
-// A decimal with no sign and no leading zero, at most max.
+// A decimal with no sign and no leading zero, at most max. Its field has a few bytes: it may leave at the first bad one.
 pub fn decimal(t: &[u8], max: u32) -> Number
     ensures { λ r. ⌜ r ≡ decimalOf max (now (t .entry)) ⌝ }
 {
@@ -75,6 +76,7 @@ pub fn decimal(t: &[u8], max: u32) -> Number
             return kept(false, 0);
         }
         v = 10 * v + d;
+        // In the loop, not behind it: it keeps 10 * v + d from overflowing.
         if (max as u64) < v {
             return kept(false, 0);
         }

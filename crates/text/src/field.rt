@@ -1,10 +1,20 @@
 // A field ends at the first tab or at the end of the line. Nothing else looks for either.
 ghost use mathlib.Core.Path.{_≡_};
 ghost use Prim.Native.Nat.{_+_};
-ghost use lib.ListN.{length};
-ghost use Rattle.text.specs.Fields.{fieldAt, placeBehind, over};
+ghost use lib.ListN.{length, drop};
+ghost use Rattle.text.specs.Fields.{ending, fieldAt, placeBehind, over};
 use crate::LF;
 use crate::TAB;
+
+// How many bytes of a line's end stand at `at`. What ends a line is said here alone.
+fn line_end(s: &[u8], at: usize) -> usize
+    ensures { λ r. ⌜ r ≡ ending (drop at (now (s .entry))) ⌝ }
+{
+    if s.len() <= at {
+        return 0;
+    }
+    (s[at] == LF) as usize
+}
 
 // Where the field that starts at `from` ends.
 fn field_end(s: &[u8], from: usize) -> usize
@@ -15,7 +25,7 @@ fn field_end(s: &[u8], from: usize) -> usize
         if s.len() <= i {
             break i;
         }
-        if (s[i] == TAB) | (s[i] == LF) {
+        if (s[i] == TAB) | (0 < line_end(s, i)) {
             break i;
         }
         i += 1;
@@ -46,13 +56,10 @@ pub fn place_behind(s: &[u8], end: usize) -> usize
     if s[end] == TAB { end + 1 } else { n }
 }
 
-// Whether the line is over at `end`: its LF stands there, and nothing behind it.
+// Whether the line is over at `end`: its end stands there, and nothing behind it.
 pub fn over(s: &[u8], end: usize) -> bool
     ensures { λ r. ⌜ r ≡ over (now (s .entry)) end ⌝ }
 {
-    let n = s.len();
-    if n <= end {
-        return false;
-    }
-    (s[end] == LF) & (n - end == 1)
+    let k = line_end(s, end);
+    (0 < k) & (end + k == s.len())
 }

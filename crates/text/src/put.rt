@@ -6,7 +6,6 @@ ghost use Rattle.text.specs.Digits.{hexChar, hex, decimal, width};
 ghost use Rattle.text.specs.Put.{placed, room};
 use crate::WORD;
 
-// Whether k bytes have room at `at`.
 pub fn has_room(s: &[u8], at: usize, k: usize) -> bool
     ensures { λ r. ⌜ r ≡ room (now (s .entry)) at k ⌝ }
 {
@@ -25,6 +24,7 @@ pub fn put_byte(s: &mut [u8], at: usize, b: u8)
     }
 }
 
+// No branch, so that the sixteen steps of `put_hex` are unrolled without jumps.
 fn hex_char(d: u8) -> u8
     requires { ⌜ d < 16 ⌝ }
     ensures { λ r. ⌜ r ≡ hexChar d ⌝ }
@@ -32,7 +32,6 @@ fn hex_char(d: u8) -> u8
     b'0' + d + 39 * ((9 < d) as u8)
 }
 
-// Sixteen hex digits, the highest first.
 pub fn put_hex(s: &mut [u8], at: usize, w: u64)
     ensures { λ r. ⌜ now (s .exit) ≡ placed (now (s .entry)) at (hex w) ⌝ }
 {

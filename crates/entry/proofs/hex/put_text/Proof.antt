@@ -1,5 +1,5 @@
 use Rattle.entry.proofs.HexText.{no-room, put-words}
-use Rattle.entry.specs.HexLaws.{entryDigits}
+use Rattle.entry.specs.Hex.{entryDigits}
 use Prim.Native.Nat.{_+_}
 use lib.ListN.{length}
 use borrow.Author.Tests.{not-true, not-false, leb-true}

@@ -1,10 +1,20 @@
 use Rattle.entry.proofs.HexText.{short-field, two-words}
+use Rattle.entry.specs.Hex.{kept}
+use mathlib.Core.Bool.{false}
+use mathlib.Core.Path.{ap, _∙_}
 use borrow.Author.Needs.{needs}
 use Rattle.entry.proofs.hex.read_entry.Statement.{statement}
 use Rattle.entry.proofs.hex.read_entry.Tie as tie
 
+zero-requires : tie.Need-zero-requires
+zero-requires c κs = search needs
+
+kept-requires : tie.Need-kept-requires
+kept-requires c κs = search needs
+
 returns : tie.Need-returns
-returns c = short-field (c .before .before .args .t .now) (c .if1 .taken)
+returns c = c .kept .ensures ∙ ap (kept false) (c .before .zero .ensures)
+    ∙ short-field (c .before .before .before .before .args .t .now) (c .before .before .if1 .taken)
 
 sub-hex : tie.Need-sub-hex
 sub-hex c = search needs
@@ -27,15 +37,22 @@ part-hex-end-2 c = search needs
 hex-requires-2 : tie.Need-hex-requires-2
 hex-requires-2 c κs = search needs
 
+kept-requires-2 : tie.Need-kept-requires-2
+kept-requires-2 c κs = search needs
+
 returns-2 : tie.Need-returns-2
-returns-2 c = let k = c .before .before in
-    two-words (k .before .before .before .before .before .before .args .t .now) (k .before .before .hex .result) (k .hex2 .result)
-    (k .before .before .hex .ensures) (k .hex2 .ensures)
+returns-2 c = let k = c .before .before .before in
+    let h = k .before .before in
+    c .kept2 .ensures
+    ∙ two-words (h .before .before .before .before .args .t .now) (h .hex .result) (k .hex2 .result)
+    (h .hex .ensures) (k .hex2 .ensures)
 
 pub read-entry-spec : {M : Type 1} → statement M
 read-entry-spec =
     tie.close
     (tie.spec
+    zero-requires
+    kept-requires
     returns
     sub-hex
     part-hex-start
@@ -44,4 +61,5 @@ read-entry-spec =
     part-hex-start-2
     part-hex-end-2
     hex-requires-2
+    kept-requires-2
     returns-2)

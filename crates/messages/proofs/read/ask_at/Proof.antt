@@ -2,13 +2,6 @@ use Rattle.messages.proofs.Reading.{ask-is}
 use borrow.Author.Needs.{needs}
 use Rattle.messages.proofs.read.ask_at.Statement.{statement}
 use Rattle.messages.proofs.read.ask_at.Tie as tie
-use Rattle.messages.proofs.read.ask_at.Reads as reads
-use Rattle.messages.proofs.read.ask_at.Lts as lts
-use Rattle.messages.proofs.read.entry_at.Reads as entry-at-reads
-use Rattle.messages.proofs.read.got.Reads as got-reads
-use Rattle.messages.proofs.read.head_at.Reads as head-at-reads
-use Rattle.messages.proofs.read.number_at.Reads as number-at-reads
-use Rattle.text.proofs.field.over.Reads as over-reads
 
 head-at-requires : tie.Need-head-at-requires
 head-at-requires c κs = search needs

@@ -2,11 +2,6 @@ use Rattle.messages.proofs.Reading.{assent-is}
 use borrow.Author.Needs.{needs}
 use Rattle.messages.proofs.read.assent_at.Statement.{statement}
 use Rattle.messages.proofs.read.assent_at.Tie as tie
-use Rattle.messages.proofs.read.assent_at.Reads as reads
-use Rattle.messages.proofs.read.assent_at.Lts as lts
-use Rattle.messages.proofs.read.entry_at.Reads as entry-at-reads
-use Rattle.messages.proofs.read.head_at.Reads as head-at-reads
-use Rattle.text.proofs.field.over.Reads as over-reads
 
 head-at-requires : tie.Need-head-at-requires
 head-at-requires c κs = search needs

@@ -2,12 +2,6 @@ use Rattle.messages.proofs.Reading.{cast-nil, cast-vote}
 use borrow.Author.Needs.{needs}
 use Rattle.messages.proofs.read.cast_at.Statement.{statement}
 use Rattle.messages.proofs.read.cast_at.Tie as tie
-use Rattle.messages.proofs.read.cast_at.Reads as reads
-use Rattle.messages.proofs.read.cast_at.Lts as lts
-use Rattle.messages.proofs.read.head_at.Reads as head-at-reads
-use Rattle.messages.proofs.read.letter_at.Reads as letter-at-reads
-use Rattle.messages.proofs.read.nil_at.Reads as nil-at-reads
-use Rattle.messages.proofs.read.vote_at.Reads as vote-at-reads
 
 head-at-requires : tie.Need-head-at-requires
 head-at-requires c κs = search needs

@@ -2,11 +2,6 @@ use Rattle.messages.proofs.Reading.{enter-is}
 use borrow.Author.Needs.{needs}
 use Rattle.messages.proofs.read.enter_at.Statement.{statement}
 use Rattle.messages.proofs.read.enter_at.Tie as tie
-use Rattle.messages.proofs.read.enter_at.Reads as reads
-use Rattle.messages.proofs.read.enter_at.Lts as lts
-use Rattle.messages.proofs.read.got.Reads as got-reads
-use Rattle.messages.proofs.read.number_at.Reads as number-at-reads
-use Rattle.text.proofs.field.over.Reads as over-reads
 
 number-at-requires : tie.Need-number-at-requires
 number-at-requires c κs = search needs

@@ -1,8 +1,5 @@
-use borrow.Author.Needs.{needs}
 use Rattle.messages.proofs.read.got.Statement.{statement}
 use Rattle.messages.proofs.read.got.Tie as tie
-use Rattle.messages.proofs.read.got.Reads as reads
-use Rattle.messages.proofs.read.got.Lts as lts
 
 returns : tie.Need-returns
 returns c = simp (c .if1 .taken)

@@ -7,15 +7,6 @@ use mathlib.Core.Path.{sym, ap, _∙_}
 use borrow.Author.Needs.{needs}
 use Rattle.messages.proofs.read.message_at.Statement.{statement}
 use Rattle.messages.proofs.read.message_at.Tie as tie
-use Rattle.messages.proofs.read.message_at.Reads as reads
-use Rattle.messages.proofs.read.message_at.Lts as lts
-use Rattle.messages.proofs.read.ask_at.Reads as ask-at-reads
-use Rattle.messages.proofs.read.assent_at.Reads as assent-at-reads
-use Rattle.messages.proofs.read.cast_at.Reads as cast-at-reads
-use Rattle.messages.proofs.read.enter_at.Reads as enter-at-reads
-use Rattle.messages.proofs.read.got.Reads as got-reads
-use Rattle.messages.proofs.read.propose_at.Reads as propose-at-reads
-use Rattle.text.proofs.field.over.Reads as over-reads
 
 assent-at-requires : tie.Need-assent-at-requires
 assent-at-requires c κs = search needs

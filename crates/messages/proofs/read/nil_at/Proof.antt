@@ -2,12 +2,6 @@ use Rattle.messages.proofs.Reading.{nil-is}
 use borrow.Author.Needs.{needs}
 use Rattle.messages.proofs.read.nil_at.Statement.{statement}
 use Rattle.messages.proofs.read.nil_at.Tie as tie
-use Rattle.messages.proofs.read.nil_at.Reads as reads
-use Rattle.messages.proofs.read.nil_at.Lts as lts
-use Rattle.entry.proofs.zero.Reads as zero-reads
-use Rattle.messages.proofs.read.got.Reads as got-reads
-use Rattle.messages.proofs.read.row_of.Reads as row-of-reads
-use Rattle.text.proofs.field.over.Reads as over-reads
 
 zero-requires : tie.Need-zero-requires
 zero-requires c κs = search needs

@@ -4,11 +4,6 @@ use mathlib.Core.Path.{ap, _∙_}
 use borrow.Author.Needs.{needs}
 use Rattle.messages.proofs.read.read_line.Statement.{statement}
 use Rattle.messages.proofs.read.read_line.Tie as tie
-use Rattle.messages.proofs.read.read_line.Reads as reads
-use Rattle.messages.proofs.read.read_line.Lts as lts
-use Rattle.messages.proofs.read.message_at.Reads as message-at-reads
-use Rattle.text.proofs.digits.letter.Reads as letter-reads
-use Rattle.text.proofs.field.field.Reads as field-reads
 
 field-requires : tie.Need-field-requires
 field-requires c κs = search needs

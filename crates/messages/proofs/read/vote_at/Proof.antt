@@ -2,16 +2,6 @@ use Rattle.messages.proofs.Reading.{vote-is}
 use borrow.Author.Needs.{needs}
 use Rattle.messages.proofs.read.vote_at.Statement.{statement}
 use Rattle.messages.proofs.read.vote_at.Tie as tie
-use Rattle.messages.proofs.read.vote_at.Reads as reads
-use Rattle.messages.proofs.read.vote_at.Lts as lts
-use Rattle.messages.proofs.read.entry_at.Reads as entry-at-reads
-use Rattle.messages.proofs.read.got.Reads as got-reads
-use Rattle.messages.proofs.read.hex_at.Reads as hex-at-reads
-use Rattle.messages.proofs.read.letter_at.Reads as letter-at-reads
-use Rattle.messages.proofs.read.mark_of.Reads as mark-of-reads
-use Rattle.messages.proofs.read.number_at.Reads as number-at-reads
-use Rattle.messages.proofs.read.row_of.Reads as row-of-reads
-use Rattle.text.proofs.field.over.Reads as over-reads
 
 number-at-requires : tie.Need-number-at-requires
 number-at-requires c κs = search needs
@@ -43,7 +33,8 @@ got-requires c κs = search needs
 returns : tie.Need-returns
 returns c = let j = c .before .before .before .before .before .before .before in
     let k = j .before .before .before .before .before .before .before in
-    vote-is _ (k .before .before .before .before .before .before .args .h) _ _ _ _ _ _ _ _ (k .before .before .before .before .number-at .ensures .0) (k .before .before .before .entry-at .ensures)
+    vote-is _ (k .before .before .before .before .before .before .args .h) _ _ _ _ _ _ _ _
+    (k .before .before .before .before .number-at .ensures .0) (k .before .before .before .entry-at .ensures)
     (k .before .before .hex-at .ensures) (k .before .letter-at .ensures) (k .mark-of .ensures) (c .before .before .over .ensures)
     (c .before .row-of .ensures) (c .got .ensures)
 

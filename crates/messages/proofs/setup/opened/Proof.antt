@@ -1,8 +1,5 @@
-use borrow.Author.Needs.{needs}
 use Rattle.messages.proofs.setup.opened.Statement.{statement}
 use Rattle.messages.proofs.setup.opened.Tie as tie
-use Rattle.messages.proofs.setup.opened.Reads as reads
-use Rattle.messages.proofs.setup.opened.Lts as lts
 
 returns : tie.Need-returns
 returns c = simp (c .if1 .taken)

@@ -2,15 +2,6 @@ use Rattle.messages.proofs.ReadingSetup.{setup-is}
 use borrow.Author.Needs.{needs}
 use Rattle.messages.proofs.setup.read_setup.Statement.{statement}
 use Rattle.messages.proofs.setup.read_setup.Tie as tie
-use Rattle.messages.proofs.setup.read_setup.Reads as reads
-use Rattle.messages.proofs.setup.read_setup.Lts as lts
-use Rattle.messages.proofs.read.entry_at.Reads as entry-at-reads
-use Rattle.messages.proofs.read.number_at.Reads as number-at-reads
-use Rattle.messages.proofs.setup.opened.Reads as opened-reads
-use Rattle.messages.proofs.setup.sizes_at.Reads as sizes-at-reads
-use Rattle.text.proofs.digits.letter.Reads as letter-reads
-use Rattle.text.proofs.field.field.Reads as field-reads
-use Rattle.text.proofs.field.over.Reads as over-reads
 
 field-requires : tie.Need-field-requires
 field-requires c κs = search needs
@@ -38,7 +29,8 @@ opened-requires c κs = search needs
 
 returns : tie.Need-returns
 returns c = let k = c .before .before .before .before .before .before .before .before .before in
-    setup-is _ _ _ _ _ _ _ _ (k .before .before .before .before .field .ensures) (k .before .before .before .letter .ensures) (k .before .before .sizes-at .ensures)
+    setup-is _ _ _ _ _ _ _ _ (k .before .before .before .before .field .ensures) (k .before .before .before .letter .ensures)
+    (k .before .before .sizes-at .ensures)
     (k .before .number-at .ensures .0) (k .entry-at .ensures) (c .before .over .ensures) (c .opened .ensures)
 
 pub read-setup-spec : {M : Type 1} → statement M

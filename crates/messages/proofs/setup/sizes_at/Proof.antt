@@ -2,10 +2,6 @@ use Rattle.messages.proofs.ReadingSetup.{sizes-is}
 use borrow.Author.Needs.{needs}
 use Rattle.messages.proofs.setup.sizes_at.Statement.{statement}
 use Rattle.messages.proofs.setup.sizes_at.Tie as tie
-use Rattle.messages.proofs.setup.sizes_at.Reads as reads
-use Rattle.messages.proofs.setup.sizes_at.Lts as lts
-use Rattle.messages.proofs.read.letter_at.Reads as letter-at-reads
-use Rattle.messages.proofs.read.number_at.Reads as number-at-reads
 
 number-at-requires : tie.Need-number-at-requires
 number-at-requires c κs = search needs

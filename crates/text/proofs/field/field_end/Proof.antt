@@ -21,8 +21,8 @@ loop-holds c = search needs
 shared-slice-read-if2 : tie.Need-shared-slice-read-if2 Inv-loop μ-loop
 shared-slice-read-if2 c = search needs
 
-shared-slice-read-if2-2 : tie.Need-shared-slice-read-if2-2 Inv-loop μ-loop
-shared-slice-read-if2-2 c = search needs
+line-end-requires : tie.Need-line-end-requires Inv-loop μ-loop
+line-end-requires c κs = search needs
 
 add-i : tie.Need-add-i Inv-loop μ-loop
 add-i c = search needs
@@ -32,16 +32,20 @@ loop-less c = search needs
 
 loop-again : tie.Need-loop-again Inv-loop μ-loop
 loop-again c = let l = c .before .before .before .before .loop in
-    sym (end-on (c .before .before .before .before .before .args .s .now) (l .i) (omega arith) (c .if2 .left)) ∙ l .inv
+    let e = c .before .line-end in
+    let s = c .before .before .before .before .before .before .args .s .now in
+    sym (end-on s (l .i) (omega arith) (e .result) (e .ensures) (c .if2 .left)) ∙ l .inv
 
 returns : tie.Need-returns Inv-loop μ-loop
 returns c = let l = c .before .loop in
-    let none = field-out (c .before .before .args .s .now) (l .i) (c .if1 .taken) in
+    let none = field-out (c .before .before .before .args .s .now) (l .i) (c .if1 .taken) in
     sym (ap (λ (f : List ℕ). l .i + length f) none ∙ omega arith) ∙ l .inv
 
 returns-2 : tie.Need-returns-2 Inv-loop μ-loop
 returns-2 c = let l = c .before .before .before .before .loop in
-    sym (end-here (c .before .before .before .before .before .args .s .now) (l .i) (omega arith) (c .if2 .taken)) ∙ l .inv
+    let e = c .before .line-end in
+    let s = c .before .before .before .before .before .before .args .s .now in
+    sym (end-here s (l .i) (omega arith) (e .result) (e .ensures) (c .if2 .taken)) ∙ l .inv
 
 pub field-end-spec : {M : Type 1} → statement M
 field-end-spec =
@@ -51,7 +55,7 @@ field-end-spec =
     μ-loop
     loop-holds
     shared-slice-read-if2
-    shared-slice-read-if2-2
+    line-end-requires
     add-i
     loop-less
     loop-again

@@ -1,23 +1,25 @@
-use Rattle.text.specs.FieldEnds.{left-one}
-use borrow.Author.Tests.{lt-ltb, le-ltb}
+use Rattle.text.specs.FieldEnds.{ending-below}
+use Prim.Native.Nat.{ℕ, _+_, _^_}
+use mathlib.Core.Path.{ap}
+use mathlib.Core.Bool.{_&&_}
+use lib.Dec.{eqb, ltb}
 use lib.ListN.{length}
 use native.Mathlib.Omega.{arith}
 use borrow.Author.Needs.{needs}
 use Rattle.text.proofs.field.over.Statement.{statement}
 use Rattle.text.proofs.field.over.Tie as tie
 
+line-end-requires : tie.Need-line-end-requires
+line-end-requires c κs = search needs
+
+add-result : tie.Need-add-result
+add-result c = let k = c .before .before in
+    let fits = ending-below (k .args .s .now) (k .args .end) (2 ^ 64) (k .fits .end .fits) (k .good .0 .0) in
+    omega (arith, c .line-end .ensures)
+
 returns : tie.Need-returns
-returns c = simp (le-ltb (c .before .args .end) (length (c .before .args .s .now)) (c .if1 .taken))
-
-shared-slice-read-result : tie.Need-shared-slice-read-result
-shared-slice-read-result c = search needs
-
-sub-result : tie.Need-sub-result
-sub-result c = search needs
-
-returns-2 : tie.Need-returns-2
-returns-2 c = let a = c .before .before .args in
-    simp (lt-ltb (a .end) (length (a .s .now)) (omega arith), left-one (length (a .s .now)) (a .end) (omega arith))
+returns c = let a = c .before .before .args in
+    ap (λ (k : ℕ). ltb 0 k && eqb (a .end + k) (length (a .s .now))) (c .line-end .ensures)
 
 pub over-spec : {M : Type 1} → statement M
-over-spec = tie.close (tie.spec returns shared-slice-read-result sub-result returns-2)
+over-spec = tie.close (tie.spec line-end-requires add-result returns)
