@@ -16,7 +16,10 @@ got-requires : tie.Need-got-requires
 got-requires c κs = search needs
 
 returns : tie.Need-returns
-returns c = nil-is _ (c .before .before .before .before .before .before .before .args .h) _ _ _ _ _ (c .before .before .before .before .zero .ensures) (c .before .before .before .over .ensures) (c .before .row-of .ensures) (c .got .ensures)
+returns c =
+    let k = c .before .before .before in
+    nil-is _ (k .before .before .before .before .args .h) _ _ _ _ _ (k .before .zero .ensures) (k .over .ensures)
+    (c .before .row-of .ensures) (c .got .ensures)
 
 pub nil-at-spec : {M : Type 1} → statement M
 nil-at-spec = tie.close (tie.spec zero-requires over-requires row-of-requires got-requires returns)
