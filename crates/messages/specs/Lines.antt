@@ -86,8 +86,11 @@ kind (Cast r) = castKind
 kind (Ask q) = askKind
 kind (Confirm c) = confirmKind
 
--- "`S`; `E` view. `P` seat mark view entry mask. `A` seat mark view entry; `C` the same. `V` seat mark view `-`, a nil vote; or
--- `V` seat mark view u entry mask mark. `Q` seat mark view entry count"
+-- "`S`; `E` view"
+-- "`P` seat mark view entry mask"
+-- "`A` seat mark view entry; `C` the same"
+-- "`V` seat mark view `-`, a nil vote; or `V` seat mark view u entry mask mark"
+-- "`Q` seat mark view entry count, then count V lines as its rows"
 abbrev pub fields : Message → List (List ℕ)
 fields Start = []
 fields (Enter v) = view v ∷ []

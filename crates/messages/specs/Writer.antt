@@ -38,6 +38,7 @@ told number n = record { number = number; length = cond (eqb number 0) n 0 }
 unfoldable pub written : List ℕ → Message → Written
 written buf m = told (writerNumber buf m) (length (line m))
 
+-- A text at the front of the buffer, and every byte behind it as it was.
 abbrev pub lent : List ℕ → List ℕ → List ℕ
 lent buf text = text ++ drop (length text) buf
 

@@ -16,7 +16,9 @@ got-requires : tie.Need-got-requires
 got-requires c κs = search needs
 
 returns : tie.Need-returns
-returns c = enter-is _ _ _ _ _ (c .before .before .before .before .before .number-at .ensures .0) (c .before .before .before .over .ensures) (c .got .ensures)
+returns c =
+    let k = c .before .before .before in
+    enter-is _ _ _ _ _ (k .before .before .number-at .ensures .0) (k .over .ensures) (c .got .ensures)
 
 pub enter-at-spec : {M : Type 1} → statement M
 enter-at-spec = tie.close (tie.spec number-at-requires over-requires cast-t7 got-requires returns)

@@ -81,8 +81,10 @@ returns-7 c = let a = c .before .before .before .before .before .before .before 
     ∙ ap (messageAt (a .t .now) (a .end)) (sym (c .before .before .if7 .taken))
 
 returns-8 : tie.Need-returns-8
-returns-8 c = no-kind _ _ _ (c .before .before .before .before .before .before .if1 .left) (c .before .before .before .before .before .if2 .left) (c .before .before .before .before .if3 .left)
-    (c .before .before .before .if4 .left) (c .before .before .if5 .left) (c .before .if6 .left) (c .if7 .left)
+returns-8 c =
+    let k = c .before .before .before in
+    no-kind _ _ _ (k .before .before .before .if1 .left) (k .before .before .if2 .left) (k .before .if3 .left) (k .if4 .left)
+    (c .before .before .if5 .left) (c .before .if6 .left) (c .if7 .left)
 
 pub message-at-spec : {M : Type 1} → statement M
 message-at-spec =
