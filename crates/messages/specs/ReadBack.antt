@@ -1,12 +1,13 @@
 -- What is written is read.
 use Prim.Native.Nat.{ℕ, _≤_}
 use mathlib.Core.Path.{_≡_, refl, ap, _∙_}
-use mathlib.Core.Bool.{Bool, true, false, _||_}
+use mathlib.Core.Bool.{Bool, true, false}
 use mathlib.Core.List.{List, [], _∷_}
-use lib.Dec.{eqb, lit<}
+use lib.Dec.{lit<, lit≤}
+use Rattle.text.specs.Clean.{clean-byte}
 use Rattle.text.specs.Digits.{decimal, hex}
 use Rattle.text.specs.FieldLaws.{Ahead, over-reads, kind-reads}
-use Rattle.text.specs.Fields.{tab, lf, lineOf, endBehind}
+use Rattle.text.specs.Fields.{lineOf, endBehind}
 use Rattle.entry.specs.Hex.{entryText, IsEntry}
 use Rattle.seats.specs.declared.View.{View}
 use Rattle.votes.specs.declared.Vote.{Vote}
@@ -101,19 +102,19 @@ module _ (t : List ℕ) (e : ℕ) where
   message-back (Ask q) f a = ask-back q (f .0) (f .1 .0) (f .1 .1) a
   message-back (Confirm x) f a = rw (assent-back x (f .0) (f .1) a)
 
--- A kind is no tab and no LF.
-kind-clean : (m : Message) → (eqb (kind m) tab || eqb (kind m) lf) ≡ false
-kind-clean Start = refl
-kind-clean (Enter v) = refl
-kind-clean (Propose p) = refl
-kind-clean (Acknowledge a) = refl
-kind-clean (Cast r) = refl
-kind-clean (Ask q) = refl
-kind-clean (Confirm c) = refl
+-- A kind is a letter, so no tab, no LF and not 0.
+pub kind-letter : (m : Message) → 48 ≤ kind m
+kind-letter Start = lit≤ tt
+kind-letter (Enter v) = lit≤ tt
+kind-letter (Propose p) = lit≤ tt
+kind-letter (Acknowledge a) = lit≤ tt
+kind-letter (Cast r) = lit≤ tt
+kind-letter (Ask q) = lit≤ tt
+kind-letter (Confirm c) = lit≤ tt
 
 -- The line of a message reads as the message, its unused fields as zero.
 pub written-reads-back : (m : Message) → Fits m → readLine (line m) ≡ Read (tidy m)
 unfolding readLine line
 written-reads-back m f =
     let l = lineOf (kind m) (fields m) in
-    ap (messageAt l 1) (kind-reads (kind m) (fields m) (kind-clean m)) ∙ message-back l 1 m f refl
+    ap (messageAt l 1) (kind-reads (kind m) (fields m) (clean-byte (kind m) (kind-letter m))) ∙ message-back l 1 m f refl

@@ -1,8 +1,9 @@
 -- What is read was written.
-use Prim.Native.Nat.{ℕ, _<_}
+use Prim.Native.Nat.{ℕ}
 use mathlib.Core.Path.{_≡_, refl, sym, subst}
 use mathlib.Core.Bool.{Bool, true, false, _&&_, cond}
 use mathlib.Core.List.{List, [], _∷_}
+use native.Mathlib.Nat.{lt-of-lt-of-le}
 use lib.Dec.{eqb, lit<}
 use borrow.Author.Tests.{eqb-true}
 use Rattle.base.specs.Tests.{and-true}
@@ -21,6 +22,7 @@ use Rattle.messages.specs.Lines.{startKind, enterKind, proposeKind, ackn
 use Rattle.messages.specs.Lines.{topSeat, topView, topCount, HeadWithin, Fits}
 use Rattle.messages.specs.Reader.{numberAt, letterAt, entryAt, hexAt, markOf, headAt, got, enterAt, assentAt, proposeAt}
 use Rattle.messages.specs.Reader.{askAt, rowOf, nilAt, voteAt, castAt, messageAt, readLine}
+use Rattle.messages.specs.ReadBack.{kind-letter}
 use Rattle.messages.specs.AtLaws.{number-written, hex-written, entry-written, letter-written, mark-written}
 
 module _ (t : List ℕ) (e : ℕ) where
@@ -190,20 +192,10 @@ module _ (t : List ℕ) (e : ℕ) where
       (either k startKind _ _ (got-exact (over t e) Start (λ g. (over-exact t e g, (tt, refl))))
       tt))))))
 
--- ---- the line
-kind-some : (m : Message) → 0 < kind m
-kind-some Start = lit< tt
-kind-some (Enter v) = lit< tt
-kind-some (Propose p) = lit< tt
-kind-some (Acknowledge a) = lit< tt
-kind-some (Cast r) = lit< tt
-kind-some (Ask q) = lit< tt
-kind-some (Confirm c) = lit< tt
-
 -- What reads as a message is the message's line, and the message has no unused field that is not zero.
 pub read-was-written : (l : List ℕ) (m : Message) → readLine l ≡ Read m → (l ≡ line m) × (Fits m × (tidy m ≡ m))
 unfolding readLine line
 read-was-written l m h =
     let first = letterOf (fieldAt l 0) in
     let w = subst (Says l 1 first) h (message-exact l 1 first) in
-    (kind-exact l (kind m) (fields m) (kind-some m) (sym (w .0)) (w .1 .0), w .1 .1)
+    (kind-exact l (kind m) (fields m) (lt-of-lt-of-le (lit< tt) (kind-letter m)) (sym (w .0)) (w .1 .0), w .1 .1)
