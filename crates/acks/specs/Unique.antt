@@ -6,7 +6,14 @@ use Rattle.base.specs.Unique.{OneAnswer, one-answer}
 use Rattle.seats.specs.declared.Seat.{Seat}
 use Rattle.acks.specs.declared.AckRow.{AckRow}
 use Rattle.acks.specs.declared.Acks.{Acks}
-use Rattle.acks.specs.Acks.{acksOf, noAcks, rowOf, withRow, shares, sharers, most, margin}
+use Rattle.acks.specs.Acks.{acksOf, viewAt, withView, noAcks, rowOf, withRow, shares, sharers, most, margin}
+
+pub unique-view-at : (vs : List ℕ) (k : ℕ) → OneAnswer (λ r. r ≡ viewAt vs k)
+unique-view-at vs k = one-answer (viewAt vs k)
+
+-- What is answered is the array at exit.
+pub unique-put-view : (vs : List ℕ) (k v : ℕ) → OneAnswer (λ after. after ≡ withView vs k v)
+unique-put-view vs k v = one-answer (withView vs k v)
 
 pub unique-row-of : (es vs : List ℕ) (k : ℕ) → OneAnswer (λ r. r ≡ rowOf (acksOf es vs) k)
 unique-row-of es vs k = one-answer (rowOf (acksOf es vs) k)

@@ -23,13 +23,13 @@ pub struct Acks {
     pub views: [u32; 64],
 }
 
-fn view_at(views: &[u32; 64], k: usize) -> u32
+pub fn view_at(views: &[u32; 64], k: usize) -> u32
     ensures { λ r. ⌜ r ≡ viewAt (now (views .entry)) k ⌝ }
 {
     if k < 64 { views[k] } else { 0 }
 }
 
-fn put_view(views: &mut [u32; 64], k: usize, view: u32)
+pub fn put_view(views: &mut [u32; 64], k: usize, view: u32)
     ensures { λ r. ⌜ now (views .exit) ≡ withView (now (views .entry)) k view ⌝ }
 {
     if k < 64 {

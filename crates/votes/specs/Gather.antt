@@ -27,7 +27,7 @@ pub record SameCall (s t : Rows) : Type 0 where
   pub f : s .f ≡ t .f
   pub view : s .view ≡ t .view
 
-gathered-call : (t : Rows) (rs : List Row) → SameCall (gathered t rs) t
+pub gathered-call : (t : Rows) (rs : List Row) → SameCall (gathered t rs) t
 unfolding added
 gathered-call t [] = record { n = refl; f = refl; view = refl }
 gathered-call t (r ∷ rs) = let s = gathered-call (added t r) rs in record { n = s .n; f = s .f; view = s .view }
@@ -50,7 +50,7 @@ gathered-broken t (r ∷ rs) =
     (allSound (t .n) (t .f) (t .view) rs)
 
 -- ---- seats that rise: each has one row
-rising-above : (n s : ℕ) (rs : List Row) (k : ℕ) → T (rising n s rs) → k < s → hasSeat rs k ≡ false
+pub rising-above : (n s : ℕ) (rs : List Row) (k : ℕ) → T (rising n s rs) → k < s → hasSeat rs k ≡ false
 rising-above n s [] k t h = refl
 rising-above n s (r ∷ rs) k t h =
     let here = and-l (leb s (r .seat .0) && ltb (r .seat .0) n) (rising n (follower r) rs) t in
@@ -67,7 +67,7 @@ rising-length n s (r ∷ rs) t h =
     omega (arith, rising-length n (follower r) rs (and-r (leb s (r .seat .0) && ltb (r .seat .0) n) _ t) (omega arith))
 
 -- So "more than n" adds nothing to 15's other conditions.
-broken-is : (n f : ℕ) (v : View) (rows : List Row) → broken n f v rows ≡ (not (rising n 0 rows) || not (allSound n f v rows))
+pub broken-is : (n f : ℕ) (v : View) (rows : List Row) → broken n f v rows ≡ (not (rising n 0 rows) || not (allSound n f v rows))
 broken-is n f v rows = go (rising n 0 rows) refl
   where
     go : (b : Bool) → rising n 0 rows ≡ b → broken n f v rows ≡ (not (rising n 0 rows) || not (allSound n f v rows))
@@ -122,32 +122,33 @@ module _ (n : ℕ) (small : n ≤ 64) where
 
 -- ---- so both choose alike
 module _ (n f : ℕ) (v : View) (rows : List Row) where
-  abbrev all : Rows
+  abbrev pub all : Rows
   all = gathered (noRows n f v) rows
 
   breaks-alike : all .broken ≡ broken n f v rows
   unfolding noRows
   breaks-alike = gathered-broken (noRows n f v) rows ∙ sym (broken-is n f v rows)
 
+  pub rises : broken n f v rows ≡ false → T (rising n 0 rows)
+  rises e = go (rising n 0 rows) refl
+    where
+      go : (b : Bool) → rising n 0 rows ≡ b → T b
+      go true q = tt
+      go false q =
+          let o = or-false (ltb n (length rows)) (not (rising n 0 rows) || not (allSound n f v rows)) e in
+          let p = or-false (not (rising n 0 rows)) (not (allSound n f v rows)) (o .1) in
+          true≢false (sym (ap not q) ∙ p .0)
+
+  pub filled-alike : n ≤ 64 → broken n f v rows ≡ false → (k : ℕ) → bit (all .table .filled) k ≡ hasSeat rows k
+  unfolding noRows
+  filled-alike h e k = gathered-filled n h (noRows n f v) rows k (rises e) ∙ ap (λ b. b || hasSeat rows k) (bit-zero k)
+
   choose-alike : n ≤ 64 → broken n f v rows ≡ false → selection n f (bit (all .table .filled)) (voteAt (all .table .votes)) ≡ selection n f (hasSeat rows) (voteOf rows)
   unfolding noRows
-  choose-alike h e = selection-ext n f (bit (all .table .filled)) (hasSeat rows) (voteAt (all .table .votes)) (voteOf rows) (λ k l. has k) (λ k l t. same k t)
+  choose-alike h e = selection-ext n f (bit (all .table .filled)) (hasSeat rows) (voteAt (all .table .votes)) (voteOf rows) (λ k l. filled-alike h e k) (λ k l t. same k t)
     where
-      fine : T (rising n 0 rows)
-      fine = go (rising n 0 rows) refl
-        where
-          go : (b : Bool) → rising n 0 rows ≡ b → T b
-          go true q = tt
-          go false q =
-              let o = or-false (ltb n (length rows)) (not (rising n 0 rows) || not (allSound n f v rows)) e in
-              let p = or-false (not (rising n 0 rows)) (not (allSound n f v rows)) (o .1) in
-              true≢false (sym (ap not q) ∙ p .0)
-
-      has : (k : ℕ) → bit (all .table .filled) k ≡ hasSeat rows k
-      has k = gathered-filled n h (noRows n f v) rows k fine ∙ ap (λ b. b || hasSeat rows k) (bit-zero k)
-
       same : (k : ℕ) → T (bit (all .table .filled) k) → SameVote (voteAt (all .table .votes) k) (voteOf rows k)
-      same k t = subst (λ x. SameVote x (voteOf rows k)) (sym (gathered-vote n h (noRows n f v) rows k none-sized fine ∙ ap (λ b. cond b (voteOf rows k) (voteAt (noRows n f v .table .votes) k)) (true-is (hasSeat rows k) (subst T (has k) t))))
+      same k t = subst (λ x. SameVote x (voteOf rows k)) (sym (gathered-vote n h (noRows n f v) rows k none-sized (rises e) ∙ ap (λ b. cond b (voteOf rows k) (voteAt (noRows n f v .table .votes) k)) (true-is (hasSeat rows k) (subst T (filled-alike h e k) t))))
           (record { cast = refl; view = λ x. refl; entry = λ x. refl })
 
 answered-alike : (a b : ℕ) (s t : Selected) → a ≡ b → (b ≡ 0 → s ≡ t) → answered a s ≡ answered b t

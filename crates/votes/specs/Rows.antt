@@ -64,6 +64,10 @@ chosen n f v t = answered (callNumber n f v) (Selected.Chosen (selection n f (ha
 abbrev pub noVotes : VoteRows
 noVotes = tableOf 0 (votesOf 0 0 (replicate tableWords 0) (replicate 64 0) (replicate 64 0))
 
+-- 64 numbers with x as number k; past the 64th nothing changes.
+unfoldable pub withNumber : List ℕ → ℕ → ℕ → List ℕ
+withNumber t k x = cond (ltb k 64) (set t k x) t
+
 -- "V vote: fills the sender's row." There is no row past the 64th.
 unfoldable pub withVote : VoteRows → ℕ → Vote → VoteRows
 withVote t k x =

@@ -1,16 +1,22 @@
 -- Each contract of this crate leaves one answer.
 use Prim.Native.Nat.{ℕ}
+use mathlib.Core.Bool.{cond}
 use mathlib.Core.List.{List}
 use mathlib.Core.Path.{_≡_}
+use lib.Dec.{leb}
+use Rattle.base.specs.Refusal.{first}
 use Rattle.base.specs.Unique.{OneAnswer, one-answer}
+use Rattle.entry.specs.declared.Entry.{Entry}
 use Rattle.seats.specs.declared.Seat.{Seat}
 use Rattle.seats.specs.declared.View.{View}
+use Rattle.seats.specs.Mask.{mask}
 use Rattle.votes.specs.declared.Vote.{Vote}
 use Rattle.votes.specs.declared.Row.{Row}
 use Rattle.votes.specs.declared.Rows.{Rows}
 use Rattle.votes.specs.declared.VoteRows.{VoteRows}
 use Rattle.votes.specs.Vote.{valid}
-use Rattle.votes.specs.Rows.{votesOf, tableOf, noVotes, withVote, chosen, noRows, added, selectedFrom}
+use Rattle.votes.specs.Rows.{votesOf, tableOf, hasRow, noVotes, withNumber, withVote, chosen, noRows, added, selectedFrom}
+use Rattle.votes.specs.Request.{gatheredRefusals, rowSent}
 
 pub unique-valid : (n f : ℕ) (v : View) (x : Vote) → OneAnswer (λ r. r ≡ valid n f v x)
 unique-valid n f v x = one-answer (valid n f v x)
@@ -36,3 +42,27 @@ unique-add t r = one-answer (added t r)
 
 pub unique-select : (t : Rows) → OneAnswer (λ r. r ≡ selectedFrom t)
 unique-select t = one-answer (selectedFrom t)
+
+pub unique-request-number : (t : Rows) (n f : ℕ) (v : View) (e : Entry) → OneAnswer (λ r. r ≡ first (gatheredRefusals t n f v e))
+unique-request-number t n f v e = one-answer (first (gatheredRefusals t n f v e))
+
+-- What is answered is the array at exit.
+pub unique-put-mask : (masks : List ℕ) (k m : ℕ) → OneAnswer (λ after. after ≡ withNumber masks k m)
+unique-put-mask masks k m = one-answer (withNumber masks k m)
+
+pub unique-put-view : (views : List ℕ) (k u : ℕ) → OneAnswer (λ after. after ≡ withNumber views k u)
+unique-put-view views k u = one-answer (withNumber views k u)
+
+-- ---- over the leader's table, lent as its arrays
+module _ (filled cast verified : ℕ) (entries masks views : List ℕ) (n f : ℕ) (v : View) where
+  abbrev table : VoteRows
+  table = tableOf filled (votesOf cast verified entries masks views)
+
+  pub unique-rows-held : OneAnswer (λ r. r ≡ cond (leb n 64) (mask (hasRow n f v table) n) 0)
+  unique-rows-held = one-answer (cond (leb n 64) (mask (hasRow n f v table) n) 0)
+
+  pub unique-row-held : (s : Seat) → OneAnswer (λ r. r ≡ hasRow n f v table (s .0))
+  unique-row-held s = one-answer (hasRow n f v table (s .0))
+
+  pub unique-request-row : (s : Seat) → OneAnswer (λ r. r ≡ rowSent n f v table s)
+  unique-request-row s = one-answer (rowSent n f v table s)

@@ -2,6 +2,8 @@
 pub mod valid; // valid.rt: when a vote is valid; 64 votes
 mod search; // search.rt: what the steps look for among the rows
 pub mod steps; // steps.rt: the five steps over the leader's table
+pub mod store; // store.rt: one vote written into a table that is lent as its arrays
+pub mod request; // request.rt: the rows of a request, those that came and those that are sent
 pub mod gather; // gather.rt: tables of votes; the selection by itself, over rows gathered one by one
 
 use entry::Entry;
@@ -51,6 +53,12 @@ pub struct Rows {
     // A row was out of order, at or above n, not marked `+`, of another view or not valid.
     broken: bool,
     table: VoteRows,
+}
+
+// A seat's row of a request.
+pub enum SeatRow {
+    Empty,
+    Filled(Row),
 }
 
 pub enum Choice {

@@ -1,0 +1,11 @@
+pub mod Acknowledging
+pub mod Answered
+pub mod Asking
+pub mod Begun
+pub mod Casting
+pub mod Confirming
+pub mod Entering
+pub mod OwnNumber
+pub mod Proposing
+pub mod Starting
+pub mod Taken
