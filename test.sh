@@ -1,7 +1,7 @@
 #!/usr/bin/env bash
-# Every test: the layout of the sources, the form of the public contracts, then the proofs from nothing, the edits that must be
-# refused, the programs.
-# Ends with rt's line 'N passed, 0 failed' where all is well, and with another line and a status that is not 0 where not.
+# Every test: the layout of the sources, the form of the public contracts; the proofs from nothing, the edits that must be
+# refused, the programs; then `trace` and the library beside the second program.
+# Ends with 'N passed, 0 failed' where all is well, and with another line and a status that is not 0 where not.
 set -u
 cd "$(dirname "$0")" || exit 2
 
@@ -11,6 +11,7 @@ fail() {
 }
 
 command -v rt >/dev/null 2>&1 || fail 'the Rattle kit is needed: there is no command rt on the PATH' 2
+command -v cargo >/dev/null 2>&1 || fail 'Rust is needed for the second program: there is no command cargo on the PATH' 2
 
 echo '== layout (rt fmt --check)'
 rt fmt --check || fail 'the files named above are not in the layout of rt fmt: run rt fmt'
@@ -26,4 +27,21 @@ for name in $(sed -n 's/^pub fn \([a-z_0-9]*\).*/\1/p' tools/bad-contracts.txt);
 done
 
 echo '== proofs, edits that must be refused, programs (rt ci)'
-rt ci || fail 'rt ci failed: what it printed above says where'
+log=$(mktemp) || fail 'no temporary file can be made' 2
+trap 'rm -f "$log"' EXIT
+rt ci 2>&1 | tee "$log"
+[ "${PIPESTATUS[0]}" -eq 0 ] || fail 'rt ci failed: what it printed above says where'
+passed=$(sed -n '$s/^\([0-9][0-9]*\) passed, 0 failed$/\1/p' "$log")
+[ -n "$passed" ] || fail 'rt ci did not end with its line of tests passed'
+
+echo '== the second program (second/, Rust)'
+cargo build --release --offline --quiet --manifest-path second/Cargo.toml || fail 'second/ cannot be built'
+second=second/target/release/second
+
+echo '== examples and edges, by trace and by the second program (second/cases)'
+"$second" cases second/cases --trace target/bin/trace || fail 'a case differs: see above'
+
+echo '== random runs, by trace and by the second program'
+"$second" runs --trace target/bin/trace || fail 'a random run differs, or a cell was not reached: see above'
+
+printf '%d passed, 0 failed\n' $((passed + 2))

@@ -1,2 +1,3 @@
+pub mod Half
 pub mod Tally
 pub mod Signs

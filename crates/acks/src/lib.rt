@@ -3,6 +3,7 @@ ghost use mathlib.Core.Path.{_≡_};
 ghost use mathlib.Core.Bool.{not, _&&_};
 ghost use lib.Dec.{eqb};
 ghost use Rattle.seats.specs.Mask.{mask, rowsOf};
+ghost use Rattle.seats.specs.Seats.{count};
 ghost use Rattle.acks.specs.Acks.{acksOf, viewAt, withView, noAcks, rowOf, withRow, isFilled, shares, sharers, most, margin};
 use entry::Entry;
 use entry::table;
@@ -111,8 +112,23 @@ pub fn sharers<'a>(entries: &'a Entries, views: &'a [u32; 64], n: u8, a: AckRow)
     m
 }
 
+// How many of the seats' rows are this very row, filled or not. No branch, so that several rows are in one step.
+fn alike<'a>(entries: &'a Entries, views: &'a [u32; 64], n: u8, a: AckRow) -> u32
+    ensures { λ r. ⌜ r ≡ count (λ k. shares (rowOf (acksOf (now (entries .entry)) (now (views .entry))) k) a) (rowsOf n) ⌝ }
+{
+    let rows = mask::rows_of(n);
+    let mut count: u32 = 0;
+    let mut k: usize = 0;
+    while k < rows {
+        let row = row_of(entries, views, k);
+        count += shares(row, a) as u32;
+        k += 1;
+    }
+    count
+}
+
 // Group by group over the filled rows, while what is left could be a larger group.
-pub fn most<'a>(entries: &'a Entries, views: &'a [u32; 64], n: u8) -> u32
+fn most_by_groups<'a>(entries: &'a Entries, views: &'a [u32; 64], n: u8) -> u32
     ensures { λ r. ⌜ r ≡ most n (rowOf (acksOf (now (entries .entry)) (now (views .entry)))) ⌝ }
 {
     let mut left = filled(views, n);
@@ -125,6 +141,18 @@ pub fn most<'a>(entries: &'a Entries, views: &'a [u32; 64], n: u8) -> u32
         left = mask::without(left, group);
     }
     best
+}
+
+// A row that half of the seats have is what most share; where they acknowledge one after the other the middle seat has it.
+pub fn most<'a>(entries: &'a Entries, views: &'a [u32; 64], n: u8) -> u32
+    ensures { λ r. ⌜ r ≡ most n (rowOf (acksOf (now (entries .entry)) (now (views .entry)))) ⌝ }
+{
+    let row = row_of(entries, views, (n / 2) as usize);
+    let group = alike(entries, views, n, row);
+    if (row.view.0 != 0) & (n as u32 <= 2 * group) {
+        return group;
+    }
+    most_by_groups(entries, views, n)
 }
 
 pub fn margin<'a>(entries: &'a Entries, views: &'a [u32; 64], n: u8, f: u8) -> i32

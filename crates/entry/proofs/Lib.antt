@@ -1,2 +1,5 @@
 pub mod HexText
+pub mod Lanes
+pub mod Marks
 pub mod Scan
+pub mod Windows

@@ -113,7 +113,7 @@ bytes-back e = ap₂ ofWords (word-back (e .hi)) (word-back (e .lo))
 pub bytes-tell : (a b : Entry) → bytesOf a ≡ bytesOf b → a ≡ b
 bytes-tell a b h = sym (bytes-back a) ∙ ap entryOf h ∙ bytes-back b
 
-all-append : (test : ℕ → Bool) (xs ys : List ℕ) → T (all test (xs ++ ys)) → T (all test xs) × T (all test ys)
+pub all-append : (test : ℕ → Bool) (xs ys : List ℕ) → T (all test (xs ++ ys)) → T (all test xs) × T (all test ys)
 all-append test [] ys h = (tt, h)
 all-append test (x ∷ xs) ys h =
     let r = all-append test xs ys (and-r (test x) (all test (xs ++ ys)) h) in

@@ -1,6 +1,5 @@
 pub mod Entry
 pub mod Flags
-pub mod Follows
 pub mod Hex
 pub mod HexLaws
 pub mod Laws

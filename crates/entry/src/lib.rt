@@ -1,15 +1,12 @@
 // The 16-byte entry, held as two big-endian words.
 ghost use mathlib.Core.Path.{_≡_};
-ghost use Rattle.entry.specs.Entry.{zeroEntry, bytesOf, same, less, wellFormed};
-ghost use Rattle.entry.specs.Follows.{follows};
+ghost use Rattle.entry.specs.Entry.{zeroEntry, wordBytes, bytesOf, serial, same, less, wellFormed};
 
 pub mod table; // table.rt: one entry a seat
 pub mod hex; // hex.rt: its text in a line
 
-// Bytes of an entry, and of the serial that they begin with.
+// Bytes of an entry.
 pub const SIZE: usize = 16;
-
-pub const SERIAL: usize = 12;
 
 pub struct Entry {
     pub hi: u64,
@@ -61,26 +58,26 @@ pub fn bytes_of(e: Entry) -> [u8; SIZE]
     ]
 }
 
-// Whether x may stand in a serial behind a blank, or behind none.
-fn follows(blank: bool, x: u8) -> bool
-    ensures { λ r. ⌜ r ≡ follows blank x ⌝ }
+// The top bit of every byte of a word.
+const TOPS: u64 = 0x8080808080808080;
+
+// Whether the eight bytes of a word are visible ones, then blanks; all eight in each step. To the low seven bits of every byte
+// 128 - x is added: no sum leaves its byte, and its top bit tells whether they are x or more. A visible byte stands behind another,
+// or is the first.
+fn stretches(w: u64) -> bool
+    ensures { λ r. ⌜ r ≡ serial (wordBytes w) ⌝ }
 {
-    (x == 0x20) | (!blank & (0x21 <= x) & (x <= 0x7e))
+    let low = w & 0x7f7f7f7f7f7f7f7f;
+    let seen = low + 0x5f5f5f5f5f5f5f5f;
+    let shown = (low + 0x6060606060606060) & (((low + 0x101010101010101) | w) ^ TOPS);
+    let behind = seen / 256 + 0x8000000000000000;
+    shown & ((seen ^ TOPS) | behind) & TOPS == TOPS
 }
 
-// Every byte is looked at: no early exit, so that the loop is unrolled.
+// The serial in two words, bytes 0 to 7 and bytes 4 to 11: each two neighbours stand in one of them.
 pub fn well_formed(e: Entry) -> bool
     ensures { λ r. ⌜ r ≡ wellFormed e ⌝ }
 {
-    let b = bytes_of(e);
-    let mut good = true;
-    let mut blank = false;
-    let mut i: usize = 0;
-    while i < SERIAL {
-        let x = b[i];
-        good = good & follows(blank, x);
-        blank = x == 0x20;
-        i += 1;
-    }
-    good
+    let middle = e.hi % 0x100000000 * 0x100000000 + e.lo / 0x100000000;
+    stretches(e.hi) & stretches(middle)
 }

@@ -21,16 +21,19 @@ use crate::START;
 use crate::TOP_COUNT;
 use crate::TOP_SEAT;
 use crate::TOP_VIEW;
+use entry::hex::DIGITS;
 use entry::hex::EntryField;
 use entry::hex::read_entry;
 use entry::zero;
 use seats::Seat;
 use seats::View;
 use text::Number;
+use text::WORD;
 use text::digits::decimal;
 use text::digits::hex;
 use text::digits::letter;
 use text::field::field;
+use text::field::field_of;
 use text::field::over;
 use text::field::place_behind;
 use votes::Row;
@@ -79,7 +82,7 @@ fn hex_at(t: &[u8], end: usize) -> NumberAt
     ensures { λ r. ⌜ r ≡ hexAt (now (t .entry)) end ⌝ }
 {
     let p = place_behind(t, end);
-    let f = field(t, p);
+    let f = field_of(t, p, WORD);
     NumberAt {
         number: hex(f),
         end: p + f.len(),
@@ -90,7 +93,7 @@ pub(crate) fn entry_at(t: &[u8], end: usize) -> EntryAt
     ensures { λ r. ⌜ r ≡ entryAt (now (t .entry)) end ⌝ }
 {
     let p = place_behind(t, end);
-    let f = field(t, p);
+    let f = field_of(t, p, DIGITS);
     EntryAt {
         field: read_entry(f),
         end: p + f.len(),

@@ -81,7 +81,7 @@ fn row_head(r: Row) -> Head
     }
 }
 
-pub fn line_length(m: Message) -> usize
+fn line_length(m: Message) -> usize
     ensures { λ r. ⌜ r ≡ length (line m) ⌝ }
 {
     match m {

@@ -35,7 +35,8 @@ use Rattle.replica.specs.declared.Sent.{Sent}
 use Rattle.replica.specs.declared.Step.{Step}
 use Rattle.replica.specs.Refusals.{asking, castRefusals}
 use Rattle.replica.specs.Replica.{standing, ownRefusals, numberFor, withStage, withLead}
-use Rattle.replica.specs.Steps.{stepOf, refused, headOf, voted, filledBy, choiceOf, settled, entryChosen, chooses, selectionOf, collected, castStep}
+use Rattle.replica.specs.Choices.{choiceOf, settled, entryChosen}
+use Rattle.replica.specs.Steps.{stepOf, refused, headOf, voted, filledBy, chooses, selectionOf, collected, castStep}
 use Rattle.replica.proofs.Answered.{number-is, answered-is}
 use Rattle.replica.proofs.Taken.{number-allowed}
 

@@ -17,7 +17,6 @@ use Rattle.acks.specs.Acks.{rowOf, withRow, sharing}
 use Rattle.votes.specs.declared.Vote.{Vote}
 use Rattle.votes.specs.declared.Row.{Row}
 use Rattle.votes.specs.declared.Choice.{Choice}
-use Rattle.votes.specs.declared.Selected.{Selected}
 use Rattle.votes.specs.declared.Rows.{Rows}
 use Rattle.votes.specs.Selection.{selection}
 use Rattle.votes.specs.Rows.{voteAt, hasRow, noVotes, withVote}
@@ -142,21 +141,6 @@ requestFor s e = Ask (record { head = headOf s (s .view); entry = e; count = cou
 
 abbrev pub asks : Replica → Entry → Step
 asks s e = saying (withStage (withLead s (s .votes) e (s .confirmed)) asking) (requestFor s e)
-
--- What the selection answers to a house and view that it takes; it waits where it refuses.
-abbrev pub choiceOf : Selected → Choice
-choiceOf (Selected.Refused number) = Choice.Wait
-choiceOf (Selected.Chosen c) = c
-
-abbrev pub settled : Choice → Bool
-settled Choice.Wait = false
-settled Choice.Free = true
-settled (Choice.Forced e) = true
-
-abbrev pub entryChosen : Choice → Entry → Entry → Entry
-entryChosen Choice.Wait own was = was
-entryChosen Choice.Free own was = own
-entryChosen (Choice.Forced e) own was = e
 
 abbrev pub chooses : Replica → Choice → Step
 chooses s Choice.Wait = quiet s

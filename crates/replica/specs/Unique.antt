@@ -19,7 +19,7 @@ use Rattle.messages.specs.declared.Request.{Request}
 use Rattle.replica.specs.declared.Replica.{Replica}
 use Rattle.replica.specs.declared.Step.{Step}
 use Rattle.replica.specs.Refusals.{setupRefusals}
-use Rattle.replica.specs.Steps.{answerOf, setupStep, startStep, enterStep, proposeStep, acknowledgeStep, castStep, askWith, confirmStep}
+use Rattle.replica.specs.Steps.{answerOf, setupStep, startStep, enterStep, proposeStep, acknowledgeStep, castStep, askWith, askStep, confirmStep}
 
 pub unique-setup-number : (n f : ℕ) (s : Seat) (own : Entry) → OneAnswer (λ r. r ≡ first (setupRefusals n f s own))
 unique-setup-number n f s own = one-answer (first (setupRefusals n f s own))
@@ -76,6 +76,9 @@ unique-cast s r = unique-answer (castStep s r)
 
 pub unique-ask : (s : Replica) (q : Request) (rows : Rows) → OneAnswer (λ r. r ≡ answerOf (askWith s q rows))
 unique-ask s q rows = unique-answer (askWith s q rows)
+
+pub unique-ask-over : (s : Replica) (q : Request) (rows : List Row) → OneAnswer (λ r. r ≡ answerOf (askStep s q rows))
+unique-ask-over s q rows = unique-answer (askStep s q rows)
 
 pub unique-confirm : (s : Replica) (c : Assent) → OneAnswer (λ r. r ≡ answerOf (confirmStep s c))
 unique-confirm s c = unique-answer (confirmStep s c)

@@ -5,6 +5,7 @@ mod begin; // begin.rt: setup
 mod member; // member.rt: E, P, A, Q
 mod leader; // leader.rt: S, V, C
 pub mod events; // events.rt: setup and the events with the margin counted: one method an event
+pub mod slice; // slice.rt: Q, over rows that the caller lends
 
 use acks::Acks;
 use entry::Entry;

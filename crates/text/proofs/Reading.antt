@@ -1,19 +1,20 @@
 -- Steps of the loops that read numbers.
-use Prim.Native.Nat.{ℕ, _+_, _*_, _-_, _%_, _^_, _≤_, _<_}
+use Prim.Native.Nat.{ℕ, _+_, _*_, _-_, _/_, _%_, _^_, _≤_, _<_}
 use mathlib.Core.Path.{_≡_, refl, sym, ap, _∙_}
-use mathlib.Core.Bool.{Bool, true, false, not, _&&_, _||_, cond}
+use mathlib.Core.Bool.{Bool, true, false, not, _&&_, cond}
 use mathlib.Core.List.{List, [], _∷_}
 use native.Mathlib.Omega.{arith}
 use native.Mathlib.Numerals.{add-one}
-use native.Mathlib.Nat.{pow-suc, pow-le-pow-right, lt-of-lt-of-le}
+use native.Mathlib.Nat.{pow-suc, pow-le-pow-right, lt-of-lt-of-le, mod-lt}
 use lib.Dec.{eqb, ltb, leb, lit<}
 use lib.ListN.{length, drop, getD, drop-of-length-le}
 use lib.Seq.{drop-cons}
 use mir.Val.{boolByte}
-use borrow.Author.Tests.{ltb-true, ltb-false, leb-true, eq-eqb, ne-eqb, le-leb, lt-leb}
+use borrow.Author.Tests.{ltb-false, leb-true, eqb-true, eqb-false, eq-eqb, ne-eqb, le-leb, lt-leb}
 use Rattle.base.specs.Tests.{true≢false}
-use Rattle.text.specs.Digits.{some, none, valueFrom, decDigit, hexDigit, plain, atMost, decimalOf}
+use Rattle.text.specs.Digits.{some, none, valueFrom, decDigit, hexChar, hexDigit, plain, atMost, decimalOf}
 use Rattle.text.specs.Digits.{wordDigits, hexOf, letterOf}
+use Rattle.text.specs.HexLaws.{hex-back, hex-only}
 use Rattle.text.specs.declared.Number.{Number}
 
 -- ---- digits of any base
@@ -121,53 +122,40 @@ pub bit-le : (b : Bool) → boolByte b ≤ 1
 bit-le true = omega arith
 bit-le false = omega arith
 
--- A letter's number is nine more than its low half, a decimal digit's is its low half.
-pub is-hex : (x : ℕ) → ((leb 97 x && leb x 102) || (leb 48 x && leb x 57)) ≡ not (eqb (hexDigit x) 16)
-unfolding hexDigit
-is-hex x = go (ltb x 48) refl (leb x 57) refl (ltb x 97) refl (leb x 102) refl
+-- A byte is a digit where the number read from it is written as that byte.
+pub is-hex : (x d : ℕ) → d < 16 → (eqb (hexDigit x) 16 ≡ false → d ≡ hexDigit x) → eqb x (hexChar d) ≡ not (eqb (hexDigit x) 16)
+is-hex x d low h = go (eqb (hexDigit x) 16) refl
   where
-    go : (p : Bool) → ltb x 48 ≡ p → (q : Bool) → leb x 57 ≡ q → (r : Bool) → ltb x 97 ≡ r → (s : Bool) → leb x 102 ≡ s
-        → ((leb 97 x && s) || (leb 48 x && q)) ≡ not (eqb (cond p 16 (cond q (x - 48) (cond r 16 (cond s (x - 97 + 10) 16)))) 16)
-    go true e q f r g s i =
-        let a = ltb-true x 48 e in
-        simp (lt-leb 97 x (omega arith), lt-leb 48 x (omega arith))
-    go false e true f r g s i =
-        let a = ltb-false x 48 e in
-        let b = leb-true x 57 f in
-        simp (lt-leb 97 x (omega arith), le-leb 48 x a, ne-eqb (x - 48) 16 (λ z. omega arith))
-    go false e false f true g s i =
-        let a = ltb-true x 97 g in
-        simp (lt-leb 97 x (omega arith), le-leb 48 x (ltb-false x 48 e))
-    go false e false f false g true i =
-        let a = ltb-false x 97 g in
-        let b = leb-true x 102 i in
-        simp (le-leb 97 x a, ne-eqb (x - 97 + 10) 16 (λ z. omega arith))
-    go false e false f false g false i = simp (le-leb 97 x (ltb-false x 97 g), le-leb 48 x (ltb-false x 48 e))
+    go : (t : Bool) → eqb (hexDigit x) 16 ≡ t → eqb x (hexChar d) ≡ not t
+    go true e =
+        let none = eqb-true (hexDigit x) 16 e in
+        ne-eqb x (hexChar d) (λ (q : x ≡ hexChar d). omega (arith, none, ap hexDigit q ∙ hex-back d low))
+    go false e = eq-eqb x (hexChar d) (sym (ap hexChar (h e) ∙ hex-only x (eqb-false (hexDigit x) 16 e) .1))
 
-pub nibble-is : (x : ℕ) → (x % 16 + 9 * boolByte (leb 97 x && leb x 102) < 16)
-    × (eqb (hexDigit x) 16 ≡ false → x % 16 + 9 * boolByte (leb 97 x && leb x 102) ≡ hexDigit x)
+-- A letter's number is nine more than its low half, a decimal digit's is its low half.
+pub nibble-is : (x : ℕ) → ((x % 16 + 9 * (x / 64 % 2)) % 16 < 16)
+    × (eqb (hexDigit x) 16 ≡ false → (x % 16 + 9 * (x / 64 % 2)) % 16 ≡ hexDigit x)
 unfolding hexDigit
-nibble-is x = go (ltb x 48) refl (leb x 57) refl (ltb x 97) refl (leb x 102) refl
+nibble-is x = (mod-lt _ (lit< tt), go (ltb x 48) refl (leb x 57) refl (ltb x 97) refl (leb x 102) refl)
   where
     go : (p : Bool) → ltb x 48 ≡ p → (q : Bool) → leb x 57 ≡ q → (r : Bool) → ltb x 97 ≡ r → (s : Bool) → leb x 102 ≡ s
-        → (x % 16 + 9 * boolByte (leb 97 x && s) < 16)
-        × (eqb (cond p 16 (cond q (x - 48) (cond r 16 (cond s (x - 97 + 10) 16)))) 16 ≡ false
-        → x % 16 + 9 * boolByte (leb 97 x && s) ≡ cond p 16 (cond q (x - 48) (cond r 16 (cond s (x - 97 + 10) 16))))
-    go true e q f r g s i =
-        let a = ltb-true x 48 e in
-        (simp (lt-leb 97 x (omega arith)) (omega arith), λ z. true≢false z)
-    go false e true f r g s i =
+        → eqb (cond p 16 (cond q (x - 48) (cond r 16 (cond s (x - 97 + 10) 16)))) 16 ≡ false
+        → (x % 16 + 9 * (x / 64 % 2)) % 16 ≡ cond p 16 (cond q (x - 48) (cond r 16 (cond s (x - 97 + 10) 16)))
+    go true e q f r g s i z = true≢false z
+    go false e true f r g s i z =
         let a = ltb-false x 48 e in
         let b = leb-true x 57 f in
-        (simp (lt-leb 97 x (omega arith)) (omega arith), λ z. simp (lt-leb 97 x (omega arith)) (omega arith))
-    go false e false f true g s i =
-        let a = ltb-true x 97 g in
-        (simp (lt-leb 97 x (omega arith)) (omega arith), λ z. true≢false z)
-    go false e false f false g true i =
+        let letter : x / 64 % 2 ≡ 0 = omega arith in
+        let low : x % 16 ≡ x - 48 = omega arith in
+        rw (letter, low) (omega arith)
+    go false e false f true g s i z = true≢false z
+    go false e false f false g true i z =
         let a = ltb-false x 97 g in
         let b = leb-true x 102 i in
-        (simp (le-leb 97 x a) (omega arith), λ z. simp (le-leb 97 x a) (omega arith))
-    go false e false f false g false i = (simp (le-leb 97 x (ltb-false x 97 g)) (omega arith), λ z. true≢false z)
+        let letter : x / 64 % 2 ≡ 1 = omega arith in
+        let low : x % 16 ≡ x - 96 = omega arith in
+        rw (letter, low) (omega arith)
+    go false e false f false g false i z = true≢false z
 
 -- ---- one byte
 

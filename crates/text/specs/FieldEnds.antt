@@ -1,7 +1,7 @@
 -- How far a field reaches: what the finder's loop and its callers ask for.
 use Prim.Native.Nat.{ℕ, suc, _+_, _≤_, _<_}
 use mathlib.Core.Path.{_≡_, refl, sym, ap, _∙_}
-use mathlib.Core.Bool.{Bool, true, false, _&&_, _||_, cond}
+use mathlib.Core.Bool.{Bool, true, false, not, _&&_, _||_, cond}
 use mathlib.Core.List.{List, [], _∷_}
 use native.Mathlib.Omega.{arith}
 use native.Mathlib.Numerals.{add-one}
@@ -10,6 +10,7 @@ use lib.ListN.{length, take, drop, getD, drop-of-length-le, length-drop}
 use lib.Seq.{drop-cons}
 use mir.Val.{boolByte}
 use borrow.Author.Tests.{ltb-true}
+use Rattle.base.specs.Tests.{but-not}
 use Rattle.text.specs.Fields.{tab, lf, ending, upTo, fieldAt, placeBehind, behind, endBehind}
 
 -- A field is the front of its text.
@@ -87,3 +88,14 @@ ending-here s i h = ap ending (drop-cons s i 0 h) ∙ go (eqb (getD s i 0) lf)
 -- Where both the place and the text are below m, so is the place behind the line's end.
 pub ending-below : (s : List ℕ) (i m : ℕ) → i < m → length s < m → i + ending (drop i s) < m
 ending-below s i m h l = omega (arith, ending-le (drop i s), length-drop i s)
+
+-- A byte that is neither a tab nor an LF belongs to the field; `inside` keeps whether all before it did.
+pub end-past : (s : List ℕ) (i : ℕ) → i < length s → (inside : Bool)
+    → ((inside && not (eqb (getD s i 0) tab)) && not (eqb (getD s i 0) lf)) ≡ true
+    → (inside ≡ true) × (i + 1 + length (fieldAt s (i + 1)) ≡ i + length (fieldAt s i))
+end-past s i h inside e =
+    let x = getD s i 0 in
+    let both = but-not (inside && not (eqb x tab)) (eqb x lf) e in
+    let one = but-not inside (eqb x tab) (both .0) in
+    let none : ending (drop i s) ≡ 0 = ending-here s i h ∙ ap boolByte (both .1) in
+    (one .0, sym (end-on s i h 0 (sym none) (simp (one .1))))

@@ -23,7 +23,7 @@ unfolding hexDigit
 high-digit x lo hi = simp (le-ltb x 48 (omega arith), lt-leb x 57 (omega arith), le-ltb x 97 lo, le-leb x 102 hi)
 
 -- A digit's byte reads as the digit.
-hex-back : (d : ℕ) → d < 16 → hexDigit (hexChar d) ≡ d
+pub hex-back : (d : ℕ) → d < 16 → hexDigit (hexChar d) ≡ d
 unfolding hexChar
 hex-back d h = go (ltb d 10) refl
   where
@@ -32,7 +32,7 @@ hex-back d h = go (ltb d 10) refl
     go false e = let b = ltb-false d 10 e in high-digit (97 + (d - 10)) (omega arith) (omega arith) ∙ omega arith
 
 -- A byte that reads as a digit is that digit's.
-hex-only : (x : ℕ) → (hexDigit x ≡ 16 → ⊥) → (hexDigit x < 16) × (hexChar (hexDigit x) ≡ x)
+pub hex-only : (x : ℕ) → (hexDigit x ≡ 16 → ⊥) → (hexDigit x < 16) × (hexChar (hexDigit x) ≡ x)
 unfolding hexDigit hexChar
 hex-only x h = go (ltb x 48) refl (leb x 57) refl (ltb x 97) refl (leb x 102) refl h
   where

@@ -1,11 +1,12 @@
 // The numbers that fields hold.
 ghost use mathlib.Core.Path.{_≡_};
-ghost use mathlib.Core.Bool.{false, not, _&&_};
+ghost use mathlib.Core.Bool.{false};
 ghost use Prim.Native.Nat.{_≤_, _<_};
-ghost use lib.Dec.{eqb, leb};
+ghost use lib.Dec.{eqb};
 ghost use Rattle.text.specs.Digits.{decDigit, hexDigit, decimalOf, hexOf, letterOf, kept};
 use crate::Number;
 use crate::WORD;
+use crate::put::hex_char;
 
 // A decimal digit's number, and 10 of any other byte.
 fn dec_digit(x: u8) -> u64
@@ -20,25 +21,12 @@ fn dec_digit(x: u8) -> u64
     (x - b'0') as u64
 }
 
-fn is_letter(x: u8) -> bool
-    ensures { λ r. ⌜ r ≡ leb 97 x && leb x 102 ⌝ }
-{
-    (b'a' <= x) & (x <= b'f')
-}
-
-// Whether x is a lowercase hex digit. Here and in `nibble` nothing branches, so that the sixteen steps of `hex` are unrolled
-// without jumps.
-fn is_hex(x: u8) -> bool
-    ensures { λ r. ⌜ r ≡ not (eqb (hexDigit x) 16) ⌝ }
-{
-    is_letter(x) | ((b'0' <= x) & (x <= b'9'))
-}
-
-// A hex digit's number, from the low half of its byte; of any other byte some number below 16.
-fn nibble(x: u8) -> u64
+// A hex digit's number, from the low half of its byte, nine more for a letter, whose byte has the bit 64; of any other byte some
+// number below 16. Nothing branches, so that the sixteen steps of `hex` are one step on sixteen bytes.
+fn nibble(x: u8) -> u8
     ensures { λ r. ⌜ (r < 16) × (eqb (hexDigit x) 16 ≡ false → r ≡ hexDigit x) ⌝ }
 {
-    (x % 16 + 9 * (is_letter(x) as u8)) as u64
+    (x % 16 + 9 * (x / 64 % 2)) % 16
 }
 
 fn kept(good: bool, value: u64) -> Number
@@ -85,7 +73,8 @@ pub fn decimal(t: &[u8], max: u32) -> Number
     kept(true, v)
 }
 
-// A word of sixteen lowercase hex digits, the highest first. Every byte is looked at: no early exit.
+// A word of sixteen lowercase hex digits, the highest first. Every byte is looked at: no early exit. A byte is a digit where the
+// number read from it is written as that byte.
 pub fn hex(t: &[u8]) -> Number
     ensures { λ r. ⌜ r ≡ hexOf (now (t .entry)) ⌝ }
 {
@@ -97,8 +86,9 @@ pub fn hex(t: &[u8]) -> Number
     let mut i: usize = 0;
     while i < WORD {
         let x = t[i];
-        good = good & is_hex(x);
-        v = 16 * v + nibble(x);
+        let d = nibble(x);
+        good = good & (x == hex_char(d));
+        v = 16 * v + (d as u64);
         i += 1;
     }
     kept(good, v)

@@ -1,3 +1,5 @@
 pub mod Pairs
 pub mod Masked
 pub mod Held
+pub mod Walking
+pub mod Lent

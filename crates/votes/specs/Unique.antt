@@ -15,7 +15,7 @@ use Rattle.votes.specs.declared.Row.{Row}
 use Rattle.votes.specs.declared.Rows.{Rows}
 use Rattle.votes.specs.declared.VoteRows.{VoteRows}
 use Rattle.votes.specs.Vote.{valid}
-use Rattle.votes.specs.Rows.{votesOf, tableOf, hasRow, noVotes, withNumber, withVote, chosen, noRows, added, selectedFrom}
+use Rattle.votes.specs.Rows.{votesOf, tableOf, hasRow, noVotes, withNumber, withVote, chosen, selected, noRows, added, gathered, selectedFrom}
 use Rattle.votes.specs.Request.{gatheredRefusals, rowSent}
 
 pub unique-valid : (n f : ℕ) (v : View) (x : Vote) → OneAnswer (λ r. r ≡ valid n f v x)
@@ -42,6 +42,12 @@ unique-add t r = one-answer (added t r)
 
 pub unique-select : (t : Rows) → OneAnswer (λ r. r ≡ selectedFrom t)
 unique-select t = one-answer (selectedFrom t)
+
+pub unique-gather-over : (n f : ℕ) (v : View) (rows : List Row) → OneAnswer (λ r. r ≡ gathered (noRows n f v) rows)
+unique-gather-over n f v rows = one-answer (gathered (noRows n f v) rows)
+
+pub unique-select-over : (n f : ℕ) (v : View) (rows : List Row) → OneAnswer (λ r. r ≡ selected n f v rows)
+unique-select-over n f v rows = one-answer (selected n f v rows)
 
 pub unique-request-number : (t : Rows) (n f : ℕ) (v : View) (e : Entry) → OneAnswer (λ r. r ≡ first (gatheredRefusals t n f v e))
 unique-request-number t n f v e = one-answer (first (gatheredRefusals t n f v e))

@@ -5,6 +5,7 @@ pub mod steps; // steps.rt: the five steps over the leader's table
 pub mod store; // store.rt: one vote written into a table that is lent as its arrays
 pub mod request; // request.rt: the rows of a request, those that came and those that are sent
 pub mod gather; // gather.rt: tables of votes; the selection by itself, over rows gathered one by one
+pub mod slice; // slice.rt: the selection by itself, over rows that the caller lends
 
 use entry::Entry;
 use entry::table::Entries;

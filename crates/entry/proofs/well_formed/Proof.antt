@@ -1,66 +1,27 @@
--- `entry::well_formed` meets its contract. The loop's invariant: what was read is good and the rest scans, exactly when the whole serial scans.
+use mathlib.Core.Bool.{_&&_}
+use mathlib.Core.Path.{ap₂, _∙_}
+use Rattle.entry.proofs.Windows.{middle-room, two-windows}
 use borrow.Author.Needs.{needs}
-use Prim.Native.Nat.{ℕ, _≤_, _-_}
-use mathlib.Core.Path.{_≡_, refl, sym, ap, _∙_}
-use mathlib.Core.Bool.{false, _&&_}
-use mathlib.Core.List.{List}
-use lib.Dec.{lit≤}
-use lib.ListN.{length, take, drop}
-use Rattle.entry.specs.Entry.{serialLength, serial, wellFormed}
-use Rattle.entry.proofs.Scan.{scan, scan-serial, scan-more, scan-end}
 use Rattle.entry.proofs.well_formed.Statement.{statement}
 use Rattle.entry.proofs.well_formed.Tie as tie
 
-abbrev Inv-loop : tie.InvT-loop
-Inv-loop b good₀ blank₀ i₀ good blank i = (i ≤ serialLength) × ((good && scan blank (drop i (take serialLength b))) ≡ scan false (take serialLength b))
+mul-middle : tie.Need-mul-middle
+mul-middle c = search needs
 
-abbrev μ-loop : tie.MeasureT-loop
-μ-loop b good₀ blank₀ i₀ good blank i = serialLength - i
+add-middle : tie.Need-add-middle
+add-middle c = let e = c .before .before .args .e in record { fits = middle-room (e .hi) (e .lo) (search needs) }
 
-bytes-of-requires : tie.Need-bytes-of-requires Inv-loop μ-loop
-bytes-of-requires c κs = search needs
+stretches-requires : tie.Need-stretches-requires
+stretches-requires c κs = search needs
 
-loop-holds : tie.Need-loop-holds Inv-loop μ-loop
-loop-holds c = (search needs, refl)
+stretches-requires-2 : tie.Need-stretches-requires-2
+stretches-requires-2 c κs = search needs
 
-array-read-x : tie.Need-array-read-x Inv-loop μ-loop
-array-read-x c = search needs
-
-follows-requires : tie.Need-follows-requires Inv-loop μ-loop
-follows-requires c κs = search needs
-
-add-i : tie.Need-add-i Inv-loop μ-loop
-add-i c = search needs
-
-loop-less : tie.Need-loop-less Inv-loop μ-loop
-loop-less c = search needs
-
-loop-again : tie.Need-loop-again Inv-loop μ-loop
-loop-again c =
-    let b = c .before .before .before .bytes-of .result in
-    let l = c .before .before .loop in
-    let long : serialLength ≤ length b = rw (c .before .before .before .bytes-of .ensures) (lit≤ tt) in
-    (search needs, rw (c .follows .ensures) (scan-more serialLength b (l .good) (l .blank) (l .i) long (search needs) ∙ l .inv .1))
-
-returns : tie.Need-returns Inv-loop μ-loop
-unfolding wellFormed
+returns : tie.Need-returns
 returns c =
-    let b = c .before .before .bytes-of .result in
-    let l = c .before .loop in
-    sym (scan-end serialLength b (l .good) (l .blank) (l .i) (search needs))
-    ∙ l .inv .1 ∙ scan-serial (take serialLength b) ∙ ap (λ (s : List ℕ). serial (take serialLength s)) (c .before .before .bytes-of .ensures)
+    let e = c .before .before .before .before .args .e in
+    ap₂ _&&_ (c .before .stretches .ensures) (c .stretches2 .ensures) ∙ two-windows e (record { hi = search needs; lo = search needs })
 
 pub well-formed-spec : {M : Type 1} → statement M
 well-formed-spec =
-    tie.close
-    (tie.spec
-    Inv-loop
-    μ-loop
-    bytes-of-requires
-    loop-holds
-    array-read-x
-    follows-requires
-    add-i
-    loop-less
-    loop-again
-    returns)
+    tie.close (tie.spec mul-middle add-middle stretches-requires stretches-requires-2 returns)

@@ -11,8 +11,8 @@ use Rattle.messages.proofs.read.entry_at.Tie as tie
 place-behind-requires : tie.Need-place-behind-requires
 place-behind-requires c κs = search needs
 
-field-requires : tie.Need-field-requires
-field-requires c κs = search needs
+field-of-requires : tie.Need-field-of-requires
+field-of-requires c κs = search needs
 
 read-entry-requires : tie.Need-read-entry-requires
 read-entry-requires c κs = search needs
@@ -20,17 +20,17 @@ read-entry-requires c κs = search needs
 add-t7 : tie.Need-add-t7
 add-t7 c = let a = c .before .before .before .before .args in
     let p = c .before .before .place-behind in
-    let f = c .before .field in
+    let f = c .before .field-of in
     omega (arith, found-le (a .t .now) (a .end) (p .result) (f .result .now) (p .ensures) (f .ensures))
 
 returns : tie.Need-returns
 returns c = let a = c .before .before .before .before .args in
     let p = c .before .before .place-behind in
-    let f = c .before .field in
+    let f = c .before .field-of in
     let is = found (a .t .now) (a .end) (p .result) (f .result .now) (p .ensures) (f .ensures) in
     let ends = found-end (a .t .now) (a .end) (p .result) (f .result .now) (p .ensures) (f .ensures) in
     ap₂ (λ (x : EntryField) (k : ℕ). record { field = x; end = k }) (c .read-entry .ensures ∙ ap entryField is) ends
 
 pub entry-at-spec : {M : Type 1} → statement M
 entry-at-spec =
-    tie.close (tie.spec place-behind-requires field-requires read-entry-requires add-t7 returns)
+    tie.close (tie.spec place-behind-requires field-of-requires read-entry-requires add-t7 returns)

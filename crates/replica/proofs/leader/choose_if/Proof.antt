@@ -1,5 +1,5 @@
 use mathlib.Core.Path.{sym, ap, _∙_}
-use Rattle.replica.specs.Steps.{choiceOf}
+use Rattle.replica.specs.Choices.{choiceOf}
 use borrow.Author.Tests.{not-true, not-false}
 use borrow.Author.Needs.{needs}
 use Rattle.replica.proofs.leader.choose_if.Statement.{statement}

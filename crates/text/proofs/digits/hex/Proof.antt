@@ -1,13 +1,13 @@
 -- What is read so far, and the rest of the text, tell what the whole text holds.
 use mathlib.Core.Path.{_≡_, sym, ap, _∙_}
-use mathlib.Core.Bool.{Bool, not, _&&_, cond}
+use mathlib.Core.Bool.{Bool, _&&_, cond}
 use Prim.Native.Nat.{ℕ, _≤_, _<_, _-_, _+_, _*_, _^_}
 use native.Mathlib.Omega.{arith}
 use lib.Dec.{eqb, lit<}
 use lib.ListN.{drop, getD}
 use Rattle.text.specs.Digits.{none, valueFrom, hexDigit, hexOf}
 use Rattle.text.specs.declared.Number.{Number}
-use Rattle.text.proofs.Reading.{value-end, hex-room, hex-long, hex-short, hex-step}
+use Rattle.text.proofs.Reading.{value-end, hex-room, hex-long, hex-short, hex-step, is-hex}
 use borrow.Author.Needs.{needs}
 use Rattle.text.proofs.digits.hex.Statement.{statement}
 use Rattle.text.proofs.digits.hex.Tie as tie
@@ -30,14 +30,14 @@ loop-holds c = (omega arith, (lit< tt, hex-long (c .before .before .args .t .now
 shared-slice-read-x : tie.Need-shared-slice-read-x Inv-loop μ-loop
 shared-slice-read-x c = search needs
 
-is-hex-requires : tie.Need-is-hex-requires Inv-loop μ-loop
-is-hex-requires c κs = search needs
-
 nibble-requires : tie.Need-nibble-requires Inv-loop μ-loop
 nibble-requires c κs = search needs
 
+hex-char-requires : tie.Need-hex-char-requires Inv-loop μ-loop
+hex-char-requires c κs = c .nibble .ensures .0
+
 -- A value with one digit more is as small as its digits are few.
-room : (c : tie.After-is-hex Inv-loop μ-loop) (d : ℕ) → d < 16 →
+room : (c : tie.After-nibble Inv-loop μ-loop) (d : ℕ) → d < 16 →
     let k = c .before .before .before .loop in
     (16 * k .v + d < 16 ^ (k .i + 1)) × (16 * k .v + d < 2 ^ 64)
 room c d low =
@@ -45,10 +45,13 @@ room c d low =
     hex-room (k .v) d (k .i) (k .inv .1 .0) low (c .before .before .loop-test .taken)
 
 mul-v : tie.Need-mul-v Inv-loop μ-loop
-mul-v c = omega (arith, room c 0 (lit< tt) .1)
+mul-v c = omega (arith, room (c .before) 0 (lit< tt) .1)
+
+cast-v : tie.Need-cast-v Inv-loop μ-loop
+cast-v c = search needs
 
 add-v : tie.Need-add-v Inv-loop μ-loop
-add-v c = omega (arith, room (c .before) (c .nibble .result) (c .nibble .ensures .0) .1)
+add-v c = omega (arith, room (c .before) (c .before .nibble .result) (c .before .nibble .ensures .0) .1)
 
 add-i : tie.Need-add-i Inv-loop μ-loop
 add-i c = search needs
@@ -61,11 +64,11 @@ loop-again c =
     let k = c .before .before .before .before in
     let t = k .before .before .before .args .t .now in
     let l = k .loop in
-    let x = c .before .is-hex in
-    let d = c .nibble in
+    let d = c .before .nibble in
+    let x = getD t (l .i) 0 in
     let step = hex-step (l .good) (l .v) t (l .i) (search needs) (d .result) (d .ensures .1) in
-    let still = not (eqb (hexDigit (getD t (l .i) 0)) 16) in
-    let kept : (l .good && x .result) ≡ (l .good && still) = ap (λ (b : Bool). l .good && b) (x .ensures) in
+    let digit = ap (eqb x) (c .hex-char .ensures) ∙ is-hex x (d .result) (d .ensures .0) (d .ensures .1) in
+    let kept = ap (λ (b : Bool). l .good && b) digit in
     let rest = valueFrom 16 hexDigit (16 * l .v + d .result) (drop (l .i + 1) t) in (
       omega arith,
       (
@@ -94,9 +97,10 @@ hex-spec =
     returns
     loop-holds
     shared-slice-read-x
-    is-hex-requires
-    mul-v
     nibble-requires
+    hex-char-requires
+    mul-v
+    cast-v
     add-v
     add-i
     loop-less

@@ -43,26 +43,26 @@ loop-holds c =
 sub-k : tie.Need-sub-k Inv-loop μ-loop
 sub-k c = search needs
 
-mul-hex-char : tie.Need-mul-hex-char Inv-loop μ-loop
-mul-hex-char c = search needs
+mul-listed-char : tie.Need-mul-listed-char Inv-loop μ-loop
+mul-listed-char c = search needs
 
-cast-hex-char : tie.Need-cast-hex-char Inv-loop μ-loop
-cast-hex-char c = search needs
+cast-listed-char : tie.Need-cast-listed-char Inv-loop μ-loop
+cast-listed-char c = search needs
 
-shr-hex-char : tie.Need-shr-hex-char Inv-loop μ-loop
-shr-hex-char c = search needs
+shr-listed-char : tie.Need-shr-listed-char Inv-loop μ-loop
+shr-listed-char c = search needs
 
-cast-hex-char-2 : tie.Need-cast-hex-char-2 Inv-loop μ-loop
-cast-hex-char-2 c =
+cast-listed-char-2 : tie.Need-cast-listed-char-2 Inv-loop μ-loop
+cast-listed-char-2 c =
     let digit = c .before .before .before .before .before .before .args .w / 2 ^ (4 * (c .before .loop .k - 1)) in
     let low : digit % 16 < 16 = mod-lt digit (lit< tt) in
     omega arith
 
-hex-char-requires : tie.Need-hex-char-requires Inv-loop μ-loop
-hex-char-requires c κs = mod-lt _ (lit< tt)
+listed-char-requires : tie.Need-listed-char-requires Inv-loop μ-loop
+listed-char-requires c κs = mod-lt _ (lit< tt)
 
 -- There is room for the digit.
-here : (c : tie.After-hex-char Inv-loop μ-loop) → let l = c .before .before .loop in l .i < length (l .s)
+here : (c : tie.After-listed-char Inv-loop μ-loop) → let l = c .before .before .loop in l .i < length (l .s)
 here c =
     let l = c .before .before .loop in
     let w = c .before .before .before .before .before .before .before .args .w in
@@ -81,7 +81,7 @@ loop-again : tie.Need-loop-again Inv-loop μ-loop
 loop-again c =
     let a = c .before .before .before .before .before .before .before .args in
     let l = c .before .before .loop in
-    let d = c .hex-char in
+    let d = c .listed-char in
     let x = digits 16 hexChar (l .k) (a .w) in
     let y = digits 16 hexChar (l .k - 1) (a .w) in
     let is = hex-first (l .k) (a .w) (d .result) (c .before .loop-test .taken) (d .ensures) in
@@ -109,11 +109,11 @@ put-hex-spec =
     returns
     loop-holds
     sub-k
-    mul-hex-char
-    cast-hex-char
-    shr-hex-char
-    cast-hex-char-2
-    hex-char-requires
+    mul-listed-char
+    cast-listed-char
+    shr-listed-char
+    cast-listed-char-2
+    listed-char-requires
     slice-write-s
     add-i
     loop-less

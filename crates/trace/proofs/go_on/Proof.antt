@@ -1,0 +1,150 @@
+use Prim.Native.Nat.{ℕ, _≤_}
+use native.Mathlib.Omega.{arith}
+use mathlib.Core.Path.{_≡_, _∙_, refl}
+use mathlib.Core.List.{List}
+use lib.ListN.{length}
+use Rattle.trace.specs.declared.Window.{Window}
+use Rattle.trace.specs.Inside.{Inside}
+use borrow.Author.Needs.{needs}
+use Rattle.trace.proofs.go_on.Statement.{statement}
+use Rattle.trace.proofs.go_on.Tie as tie
+use Rattle.trace.proofs.go_on.Reads as reads
+use Rattle.trace.proofs.go_on.Lts as lts
+use Rattle.trace.proofs.behind.Reads as behind-reads
+use Rattle.trace.proofs.cut_if.Reads as cut-if-reads
+use Rattle.trace.proofs.feed_window.Reads as feed-window-reads
+use Rattle.trace.proofs.kept_if.Reads as kept-if-reads
+use Rattle.trace.proofs.refill.Reads as refill-reads
+use Rattle.trace.proofs.write_last.Reads as write-last-reads
+use Rattle.trace.proofs.write_front.Reads as write-front-reads
+
+-- A window that ends where another ends lies where that one lies.
+ends-alike :
+    (w r : Window) (buf : List ℕ) → Inside w buf → (r .at ≤ r .end) × (r .end ≡ w .end) → Inside r buf
+ends-alike w r buf inside ends = (ends .0, omega (arith, ends .1, inside .1))
+
+abbrev Inv-loop : tie.InvT-loop
+Inv-loop buf₀ out₀ state₀ w₀ turns₀ buf out state w turns =
+    Inside w buf × (length buf ≡ length buf₀) × (length out ≡ length out₀)
+
+abbrev μ-loop : tie.MeasureT-loop
+μ-loop buf₀ out₀ state₀ w₀ turns₀ buf out state w turns = turns
+
+-- src/main.rt:145:5
+loop-holds : tie.Need-loop-holds Inv-loop μ-loop
+loop-holds c = (c .before .before .pre, refl, refl)
+
+-- src/main.rt:146:9
+sub-turns : tie.Need-sub-turns Inv-loop μ-loop
+sub-turns c = search needs
+
+-- src/main.rt:147:13
+feed-window-requires : tie.Need-feed-window-requires Inv-loop μ-loop
+feed-window-requires c κs = c .before .before .before .loop .inv .0
+
+-- src/main.rt:150:9
+behind-requires : tie.Need-behind-requires Inv-loop μ-loop
+behind-requires c κs = c .before .before .before .before .before .before .before .loop .inv .0 .0
+
+-- src/main.rt:151:13
+write-front-requires : tie.Need-write-front-requires Inv-loop μ-loop
+write-front-requires c κs = search needs
+
+-- src/main.rt:152:13
+same-length : tie.Need-same-length Inv-loop μ-loop
+same-length c = c .before .before .before .before .before .before .before .before .before .before .before .loop .inv .1
+
+-- src/main.rt:152:13
+same-length-2 : tie.Need-same-length-2 Inv-loop μ-loop
+same-length-2 c =
+    let fed = c .before .before .before .before .before .before .before in
+    fed .feed-window .kept .1 .1 .1 .0 ∙ fed .before .before .before .before .loop .inv .2
+
+-- src/main.rt:152:13
+returns : tie.Need-returns Inv-loop μ-loop
+returns c = search needs
+
+-- src/main.rt:145:5
+loop-less : tie.Need-loop-less Inv-loop μ-loop
+loop-less c =
+    let turn = c .before .before .before .before .before .before .before .before .before .before .before .before in
+    omega (arith, turn .loop-test .taken)
+
+-- src/main.rt:145:5
+loop-again : tie.Need-loop-again Inv-loop μ-loop
+loop-again c =
+    let used = c .before .before .before .before .before in
+    let fed = used .before .before .before .before in
+    let l = fed .before .before .before .before .loop in
+    (ends-alike (l .w) (used .behind .result) (l .buf) (l .inv .0) (used .behind .ensures), l .inv .1, fed .feed-window .kept .1 .1 .1 .0 ∙ l .inv .2)
+
+-- src/main.rt:157:13
+refill-requires : tie.Need-refill-requires Inv-loop μ-loop
+refill-requires c κs =
+    let used = c .before .before .before .before .before .before in
+    let l = used .before .before .before .before .before .before .before .before .loop in
+    ends-alike (l .w) (used .behind .result) (l .buf) (l .inv .0) (used .behind .ensures)
+
+-- src/main.rt:162:9
+cut-if-requires : tie.Need-cut-if-requires Inv-loop μ-loop
+cut-if-requires c κs = search needs
+
+-- src/main.rt:164:9
+kept-if-requires : tie.Need-kept-if-requires Inv-loop μ-loop
+kept-if-requires c κs = search needs
+
+-- src/main.rt:145:5
+loop-less-2 : tie.Need-loop-less-2 Inv-loop μ-loop
+loop-less-2 c =
+    let turn = c .before .before .before .before .before .before .before .before .before .before .before .before .before .before .before .before .before .before .before in
+    omega (arith, c .kept-if .ensures, turn .loop-test .taken)
+
+-- src/main.rt:145:5
+loop-again-2 : tie.Need-loop-again-2 Inv-loop μ-loop
+loop-again-2 c =
+    let read = c .before .before .before .before .before in
+    let fed = read .before .before .before .before .before .before .before .before .before .before .before in
+    let held = fed .before .before .before .before .loop .inv in
+    ((omega arith, read .refill .ensures), read .refill .kept .0 ∙ held .1, fed .feed-window .kept .1 .1 .1 .0 ∙ held .2)
+
+-- src/main.rt:166:5
+write-last-requires : tie.Need-write-last-requires Inv-loop μ-loop
+write-last-requires c κs = search needs
+
+-- src/main.rt:139:1
+same-length-3 : tie.Need-same-length-3 Inv-loop μ-loop
+same-length-3 c = search needs
+
+-- src/main.rt:139:1
+same-length-4 : tie.Need-same-length-4 Inv-loop μ-loop
+same-length-4 c = search needs
+
+-- src/main.rt:139:1
+returns-2 : tie.Need-returns-2 Inv-loop μ-loop
+returns-2 c = search needs
+
+pub go-on-spec : {M : Type 1} → statement M
+go-on-spec =
+    tie.close
+    (tie.spec
+    Inv-loop
+    μ-loop
+    loop-holds
+    sub-turns
+    feed-window-requires
+    behind-requires
+    write-front-requires
+    same-length
+    same-length-2
+    returns
+    loop-less
+    loop-again
+    refill-requires
+    cut-if-requires
+    kept-if-requires
+    loop-less-2
+    loop-again-2
+    write-last-requires
+    same-length-3
+    same-length-4
+    returns-2)

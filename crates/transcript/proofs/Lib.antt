@@ -1,0 +1,10 @@
+pub mod Arms
+pub mod Beginning
+pub mod Deciding
+pub mod Lengths
+pub mod Meeting
+pub mod Printing
+pub mod SentRows
+pub mod Signs
+pub mod Stepping
+pub mod Turns

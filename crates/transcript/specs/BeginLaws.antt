@@ -1,0 +1,104 @@
+-- The line H: where a trace begins, and what is printed where it does not.
+use Prim.Native.Nat.{ℕ, _+_, _≤_, _<_}
+use mathlib.Core.Path.{_≡_, refl, sym, ap, _∙_}
+use mathlib.Core.Bool.{Bool, true, false, cond}
+use mathlib.Core.List.{List, [], _∷_, _++_, append-nil}
+use native.Mathlib.Omega.{arith}
+use lib.Dec.{eqb, lit≤}
+use lib.ListN.{length, length-append}
+use Rattle.base.specs.Tests.{true≢false}
+use Rattle.text.specs.DecimalLaws.{decimal-short, decimal-length}
+use Rattle.text.specs.Digits.{decimal, letterOf}
+use Rattle.text.specs.FieldLaws.{tabbed-length, line-length}
+use Rattle.text.specs.Fields.{lf, lineEnd, tabbed}
+use Rattle.entry.specs.Hex.{entryText}
+use Rattle.entry.specs.HexLaws.{text-length}
+use Rattle.messages.specs.declared.setup.Opening.{Opening}
+use Rattle.messages.specs.declared.setup.Setup.{Setup}
+use Rattle.messages.specs.Lines.{seat}
+use Rattle.messages.specs.Longest.{longestLine}
+use Rattle.messages.specs.Setup.{topSetup, setupKind, faulty, setupLine, FitsSetup, readSetup}
+use Rattle.messages.specs.SetupLaws.{setup-only}
+use Rattle.transcript.specs.Texts.{linesOf}
+use Rattle.transcript.specs.Transcript.{setupOf, badSetup, opened, output, transcript}
+use Rattle.transcript.specs.Feeding.{lastEvent, begunAs, begunBy}
+use Rattle.transcript.specs.LineLaws.{hasEnd, lines-few, lines-none, lines-front, lines-alone, lines-whole, ends-there}
+use Rattle.transcript.specs.RestLaws.{rest}
+use Rattle.transcript.specs.FeedLaws.{feeds}
+
+-- ---- what is no H
+faulty-short : (dashed : Bool) (f : ℕ) → f ≤ topSetup → length (faulty dashed f) ≤ 2
+faulty-short true f h = lit≤ tt
+faulty-short false f h = omega (arith, decimal-length f, decimal-short 1 f (omega arith) (lit≤ tt))
+
+abbrev setupFields : Setup → List (List ℕ)
+setupFields h = decimal (h .n) ∷ faulty (h .dash) (h .f) ∷ seat (h .seat) ∷ entryText (h .entry) ∷ []
+
+setup-short : (h : Setup) → FitsSetup h → length (setupLine h) ≤ longestLine + 1
+unfolding setupLine
+setup-short h f =
+    let own = seat (h .seat) ∷ entryText (h .entry) ∷ [] in
+    let n = tabbed-length (decimal (h .n)) (faulty (h .dash) (h .f) ∷ own) in
+    let x = tabbed-length (faulty (h .dash) (h .f)) own in
+    let s = tabbed-length (seat (h .seat)) (entryText (h .entry) ∷ []) in
+    let e = tabbed-length (entryText (h .entry)) [] in
+    let ns = faulty-short false (h .n) (f .n) in
+    let xs = faulty-short (h .dash) (h .f) (f .f) in
+    let ss = faulty-short false (h .seat .0) (f .seat) in
+    omega (arith, line-length setupKind (setupFields h), text-length (h .entry))
+
+-- It ends with an LF, as every line does, and is no longer than the longest.
+no-setup : (l : List ℕ) → hasEnd l ≡ false → readSetup l ≡ Opening.Malformed
+unfolding setupLine
+no-setup l n =
+    sym (setup-only l Opening.Malformed (λ h f e. true≢false (sym (ends-there (setupKind ∷ tabbed (setupFields h))) ∙ ap hasEnd (sym e) ∙ n)))
+
+long-setup : (l : List ℕ) → longestLine + 1 < length l → readSetup l ≡ Opening.Malformed
+long-setup l h = sym (setup-only l Opening.Malformed (λ s f e. omega (arith, setup-short s f, ap length e)))
+
+-- ---- the first line
+
+-- Number 0 goes on; "A bad H prints `0`, a tab and the number, and ends".
+pub begins : (l : List ℕ) (ls : List (List ℕ)) → length ls ≤ lastEvent
+    → output (l ∷ ls) ≡ cond (eqb (begunBy l .number) 0) (rest (begunBy l .state) ls) (badSetup (begunBy l .number))
+unfolding begunBy
+begins l ls small = go (readSetup l)
+  where
+    go : (o : Opening) → opened o ls ≡ cond (eqb (begunAs o .number) 0) (rest (begunAs o .state) ls) (badSetup (begunAs o .number))
+    go Opening.Malformed = refl
+    go (Opening.Read h) =
+        let t = setupOf h in
+        ap (λ (x : List ℕ). cond (eqb (t .number) 0) x (badSetup (t .number))) (sym (feeds (t .next) ls small))
+
+-- "a .. missing H"
+pub begins-none : output [] ≡ badSetup (begunBy [] .number)
+unfolding begunBy readSetup letterOf
+begins-none = refl
+
+-- "the number is 19 for a malformed or missing H": a first line that is none is as if it were missing.
+bad-setup : (l : List ℕ) (ls : List (List ℕ)) → readSetup l ≡ Opening.Malformed → output (l ∷ ls) ≡ badSetup (begunBy [] .number)
+bad-setup l ls e = ap (λ (o : Opening). opened o ls) e ∙ begins-none
+
+-- The input ends before its first LF.
+pub ends-setup : (w : List ℕ) → hasEnd w ≡ false → transcript w ≡ badSetup (begunBy [] .number)
+unfolding transcript linesOf
+ends-setup [] n = begins-none
+ends-setup (b ∷ bs) n = ap output (lines-alone b bs n) ∙ bad-setup (b ∷ bs) [] (no-setup (b ∷ bs) n)
+
+-- It is too long: what follows need not be read.
+pub cut-setup : (w more : List ℕ) → hasEnd w ≡ false → longestLine + 1 < length w
+    → transcript (w ++ more) ≡ badSetup (begunBy [] .number)
+unfolding transcript
+cut-setup w more n h = go (linesOf more) refl
+  where
+    go : (ls : List (List ℕ)) → linesOf more ≡ ls → transcript (w ++ more) ≡ badSetup (begunBy [] .number)
+    go [] e = ap transcript (ap (λ (t : List ℕ). w ++ t) (lines-none more e) ∙ append-nil w) ∙ ends-setup w n
+    go (l ∷ ls) e =
+        ap output (lines-front w more l ls n e) ∙ bad-setup (w ++ l) ls (long-setup (w ++ l) (omega (arith, length-append w l)))
+
+-- The first line is whole.
+pub begins-whole : (w t : List ℕ) → hasEnd w ≡ false → length t ≤ lastEvent
+    → transcript (w ++ (lf ∷ t))
+    ≡ cond (eqb (begunBy (w ++ lineEnd) .number) 0) (rest (begunBy (w ++ lineEnd) .state) (linesOf t)) (badSetup (begunBy (w ++ lineEnd) .number))
+unfolding transcript
+begins-whole w t n small = ap output (lines-whole w t n) ∙ begins (w ++ lineEnd) (linesOf t) (omega (arith, lines-few t))

@@ -1,0 +1,17 @@
+pub mod BeginLaws
+pub mod ByPieces
+pub mod Events
+pub mod FeedLaws
+pub mod Feeding
+pub mod LineEnds
+pub mod LineLaws
+pub mod PieceLaws
+pub mod PrintLaws
+pub mod Printed
+pub mod RestLaws
+pub mod SentLaws
+pub mod StepLaws
+pub mod TextLaws
+pub mod Texts
+pub mod Transcript
+pub mod Unique
