@@ -44,4 +44,9 @@ echo '== examples and edges, by trace and by the second program (second/cases)'
 echo '== random runs, by trace and by the second program'
 "$second" runs --trace target/bin/trace || fail 'a random run differs, or a cell was not reached: see above'
 
-printf '%d passed, 0 failed\n' $((passed + 2))
+echo '== the library for C and Rust, beside the second program (crates/station, second/library)'
+rt staticlib station >"$log" 2>&1 || { cat "$log"; fail 'rt staticlib station failed: see above'; }
+STATION_DIR=$PWD/target/staticlib cargo build --release --offline --quiet --manifest-path second/library/Cargo.toml || fail 'second/library cannot be built'
+second/library/target/release/library || fail 'the library differs, or a cell was not reached: see above'
+
+printf '%d passed, 0 failed\n' $((passed + 3))

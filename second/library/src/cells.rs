@@ -54,9 +54,9 @@ second::cells! {
     KINDS, POSSIBLE;
     TextEmpty "text: empty",
     TextSeveral "text: several events",
-    TextWithoutLf "text: last line without LF, 19",
+    TextWithoutLf "text: last line without LF, not taken",
     TextRowBroken "text: Q with a row that is no V line, 19",
-    TextRowsMissing "text: ends among a Q's rows, 19",
+    TextRowsMissing "text: ends among a Q's rows, Q not taken",
     TextRefused19 "text: 19 on a replica that setup refuses",
     TextAgain "text: third call on one replica",
     RoomNone "out: below 6,000, nothing done",

@@ -1,6 +1,6 @@
 //! What the library has to answer, by the model.
 
-use second::lines::read_row;
+use second::lines::{read, read_row};
 use second::message::{Message, Row};
 use second::replica::{Answer, Replica};
 use second::seats::ROOM;
@@ -26,10 +26,29 @@ pub struct Printed {
     pub ends: Vec<usize>,
 }
 
+/// The part of a text that is taken: whole lines, and a Q only where all its rows stand in the text.
+fn taken(text: &[u8]) -> &[u8] {
+    let lines: Vec<&[u8]> = text.split_inclusive(|&byte| byte == b'\n').filter(|line| line.ends_with(b"\n")).collect();
+    let (mut at, mut next) = (0, 0);
+    while next < lines.len() {
+        let rows = match read(lines[next]) {
+            Some(Message::Request { count, .. }) => count as usize,
+            _ => 0,
+        };
+        let behind = next + 1 + rows;
+        if behind > lines.len() {
+            break;
+        }
+        at += lines[next..behind].iter().map(|line| line.len()).sum::<usize>();
+        next = behind;
+    }
+    &text[..at]
+}
+
 /// The events of a text on any replica. A line that is no event gets 19 from the reader, so that the replica is not
 /// asked, whatever setup would say of it.
 pub fn events(replica: &mut Replica, text: &[u8], room: usize, mut see: impl FnMut(&Seen)) -> Printed {
-    let mut source = Source::new(text);
+    let mut source = Source::new(taken(text));
     let mut table = [Row::BLANK; ROOM];
     let mut printed = Printed { bytes: Vec::new(), ends: Vec::new() };
     while room.saturating_sub(printed.bytes.len()) >= LEAST_ROOM {

@@ -1,0 +1,44 @@
+use mathlib.Core.Path.{ap, _∙_}
+use lib.ListN.{length}
+use Rattle.messages.specs.Writer.{lent}
+use Rattle.transcript.specs.declared.State.{State}
+use Rattle.transcript.specs.declared.feed.Fed.{Fed}
+use Rattle.transcript.specs.Texts.{linesOf}
+use Rattle.transcript.specs.Feeding.{Ran, resumed, ran, fedOf}
+use Rattle.station.specs.Words.{replicaOf}
+use Rattle.station.proofs.Kept.{kept}
+use borrow.Author.Needs.{needs}
+use Rattle.station.proofs.calls.luscarembo_events.Statement.{statement}
+use Rattle.station.proofs.calls.luscarembo_events.Tie as tie
+
+replica-of-requires : tie.Need-replica-of-requires
+replica-of-requires c κs = search needs
+
+resume-requires : tie.Need-resume-requires
+resume-requires c κs = search needs
+
+feed-requires : tie.Need-feed-requires
+feed-requires c κs = search needs
+
+keep-requires : tie.Need-keep-requires
+keep-requires c κs = search needs
+
+same-length : tie.Need-same-length
+same-length c = search needs
+
+returns : tie.Need-returns
+returns c =
+    let d = c .before .before .before .before .before .before .before .before .before .before in
+    let e = d .before .before .before in
+    let a = e .before .before .before .before .before .before .before .before .before .args in
+    let r = replicaOf (a .scalars .now) (a .ack-entries .now) (a .ack-views .now) (a .vote-entries .now) (a .vote-masks .now) (a .vote-views .now) in
+    let begun = d .before .before .resume .ensures ∙ ap resumed {y = r} (e .replica-of .ensures) in
+    let out = a .out .now in
+    let runs : State → Ran = λ s. ran s (linesOf (a .text .now)) (length out) in
+    let k = kept (λ (f : Fed). f .put) (λ (f : Fed). f .state .replica) (d .feed .ensures .0 ∙ ap (λ s. fedOf (runs s)) begun) (c .keep .ensures) in
+    (k .0, k .1, k .2, k .3, k .4, k .5, k .6, d .feed .ensures .1 ∙ ap (λ s. lent out (runs s .text)) begun)
+
+pub luscarembo-events-spec : {M : Type 1} → statement M
+luscarembo-events-spec =
+    tie.close
+    (tie.spec replica-of-requires resume-requires feed-requires keep-requires same-length returns)

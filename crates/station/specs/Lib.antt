@@ -1,0 +1,5 @@
+pub mod Calls
+pub mod EventLaws
+pub mod Unique
+pub mod WordLaws
+pub mod Words
