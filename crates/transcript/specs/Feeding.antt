@@ -91,6 +91,7 @@ rowsAfter (Event.Row r) s rows = added rows r
 rowsAfter (Event.Heard m) s rows = rows
 rowsAfter Event.Unread s rows = rows
 
+-- A Q is sorted as `Opened`, so it is never heard.
 abbrev pub heard : Replica → Message → Step
 heard s Start = startStep s
 heard s (Enter v) = enterStep s v

@@ -139,8 +139,10 @@ pub fn feed(state: State, s: &[u8], out: &mut [u8]) -> Fed
                     number = t.number;
                     sent = x;
                 }
+                // Sorted as `Opened`: never here.
                 Message::Ask(_) => {}
             },
+            // The last row of a request, or a request with none: its rows are all there.
             _ => {
                 let t = replica.ask_step(request, rows);
                 let next = t.next;

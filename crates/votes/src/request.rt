@@ -84,7 +84,7 @@ pub fn rows_held<'a>(
     search::present(filled, cast, verified, entries, masks, views, n, f, v)
 }
 
-// Whether a seat's row counts.
+// Whether a seat's row is filled and valid. Whoever asks has seen to it that the seat is below n.
 pub fn row_held<'a>(
     filled: u64,
     cast: u64,
