@@ -1,14 +1,14 @@
--- Of a list whose numbers rise, `first` is the lowest that applies, and 0 only where none does. Lists can be joined.
+-- Of a list whose numbers rise, `first` is the lowest that applies, and 0 exactly where none does. Lists can be joined.
 use Prim.Native.Nat.{ℕ, _≤_, _<_}
-use mathlib.Core.Bool.{Bool, true, false, _&&_, cond}
+use mathlib.Core.Bool.{Bool, true, false, not, _&&_, cond}
 use mathlib.Core.List.{[], _∷_, _++_}
 use mathlib.Core.Logic.{_⊎_, inl, inr}
 use mathlib.Core.Path.{_≡_, refl, sym, ap, _∙_}
 use native.Mathlib.Omega.{arith}
 use lib.Dec.{T, eqb, ltb, ltb→lt}
-use borrow.Author.Tests.{ne-eqb}
+use borrow.Author.Tests.{eqb-true, ne-eqb}
 use Rattle.base.specs.Refusal.{Refusals, first}
-use Rattle.base.specs.Tests.{and-l, and-r, is-true, true-is, true≢false}
+use Rattle.base.specs.Tests.{and-l, and-r, is-true, true-is, false-is, true≢false}
 
 -- The numbers rise from above k on.
 abbrev pub ascending : ℕ → Refusals → Bool
@@ -58,3 +58,43 @@ first-behind j (r ∷ rs) ss t = go (r .1) (first-behind (r .0) rs ss (and-r (lt
         → cond b (r .0) (first (rs ++ ss)) ≡ cond (eqb (cond b (r .0) (first rs)) 0) (first ss) (cond b (r .0) (first rs))
     go true rec = sym (ap (λ c. cond c (first ss) (r .0)) (ne-eqb (r .0) 0 some))
     go false rec = rec
+
+-- Where nothing applies of two lists, nothing does of the first.
+pub front-none : (rs ss : Refusals) → T (ascending 0 rs) → first (rs ++ ss) ≡ 0 → first rs ≡ 0
+front-none rs ss t e = go (eqb (first rs) 0) refl (sym (first-behind 0 rs ss t) ∙ e)
+  where
+    go : (b : Bool) → eqb (first rs) 0 ≡ b → cond b (first ss) (first rs) ≡ 0 → first rs ≡ 0
+    go true q z = eqb-true (first rs) 0 q
+    go false q z = z
+
+-- ---- test by test
+
+-- No test of the list passes.
+abbrev pub Clear : Refusals → Type 0
+Clear [] = Unit {0}
+Clear (r ∷ rs) = T (not (r .1)) × Clear rs
+
+pub clear : (j : ℕ) (rs : Refusals) → T (ascending j rs) → first rs ≡ 0 → Clear rs
+clear j [] t e = tt
+clear j (r ∷ rs) t e = go (r .1) e (clear (r .0) rs (and-r (ltb j (r .0)) (ascending (r .0) rs) t))
+  where
+    go : (b : Bool) → cond b (r .0) (first rs) ≡ 0 → (first rs ≡ 0 → Clear rs) → T (not b) × Clear rs
+    go true z rest = absurd (omega (arith, ltb→lt j (r .0) (and-l (ltb j (r .0)) (ascending (r .0) rs) t)))
+    go false z rest = (tt, rest z)
+
+pub clear-none : (rs : Refusals) → Clear rs → first rs ≡ 0
+clear-none [] c = refl
+clear-none (r ∷ rs) c = ap (λ b. cond b (r .0) (first rs)) (false-is (r .1) (c .0)) ∙ clear-none rs (c .1)
+
+-- Two lists together.
+pub clear-front : (rs ss : Refusals) → Clear (rs ++ ss) → Clear rs
+clear-front [] ss c = tt
+clear-front (r ∷ rs) ss c = (c .0, clear-front rs ss (c .1))
+
+pub clear-behind : (rs ss : Refusals) → Clear (rs ++ ss) → Clear ss
+clear-behind [] ss c = c
+clear-behind (r ∷ rs) ss c = clear-behind rs ss (c .1)
+
+pub clear-both : (rs ss : Refusals) → Clear rs → Clear ss → Clear (rs ++ ss)
+clear-both [] ss c d = d
+clear-both (r ∷ rs) ss c d = (c .0, clear-both rs ss (c .1) d)

@@ -5,6 +5,7 @@ pub mod Begun
 pub mod Casting
 pub mod Confirming
 pub mod Entering
+pub mod Methods
 pub mod OwnNumber
 pub mod Proposing
 pub mod Starting

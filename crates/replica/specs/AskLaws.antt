@@ -6,7 +6,7 @@ use mathlib.Core.List.{List, [], _∷_, _++_}
 use lib.Dec.{T, eqb, leb}
 use borrow.Author.Tests.{eqb-true}
 use Rattle.base.specs.Refusal.{Refusals, first}
-use Rattle.base.specs.RefusalLaws.{ascending, first-behind}
+use Rattle.base.specs.RefusalLaws.{ascending, first-behind, front-none}
 use Rattle.entry.specs.Entry.{wellFormed}
 use Rattle.seats.specs.Sizes.{sizeRefusals, sizeNumber}
 use Rattle.votes.specs.declared.Row.{Row}
@@ -23,14 +23,6 @@ use Rattle.replica.specs.Steps.{refused, answered, confirming, askStep, 
 
 -- ---- two lists, one behind the other
 module _ (rs : Refusals) (up : T (ascending 0 rs)) where
-  -- Where nothing of both applies, nothing of the first does.
-  none-ahead : (ss : Refusals) → first (rs ++ ss) ≡ 0 → first rs ≡ 0
-  none-ahead ss e = go (eqb (first rs) 0) refl (sym (first-behind 0 rs ss up) ∙ e)
-    where
-      go : (b : Bool) → eqb (first rs) 0 ≡ b → cond b (first ss) (first rs) ≡ 0 → first rs ≡ 0
-      go true p z = eqb-true (first rs) 0 p
-      go false p z = z
-
   -- What stands behind counts where nothing of the first applies.
   alike-behind : (ss us : Refusals) → (first rs ≡ 0 → first ss ≡ first us) → first (rs ++ ss) ≡ first (rs ++ us)
   alike-behind ss us h = first-behind 0 rs ss up ∙ go (eqb (first rs) 0) refl ∙ sym (first-behind 0 rs us up)
@@ -59,7 +51,7 @@ module _ (s : Replica) (q : Request) (rows : List Row) where
   call-allowed a b =
       call-after-sizes (s .n) (s .f) (q .head .view)
       ∙ ap (λ k. cond (eqb k 0) (cond (eqb (q .head .view .0) 0) 5 0) k)
-      (none-ahead (sizeRefusals (s .n) (s .f)) tt ((3, leb (s .n) (s .seat .0)) ∷ (4, not (wellFormed (s .own))) ∷ []) a)
+      (front-none (sizeRefusals (s .n) (s .f)) ((3, leb (s .n) (s .seat .0)) ∷ (4, not (wellFormed (s .own))) ∷ []) tt a)
       ∙ alone 5 (eqb (q .head .view .0) 0) _ b
     where
       alone : (j : ℕ) (c : Bool) (k : ℕ) → cond c j k ≡ 0 → cond c j 0 ≡ 0

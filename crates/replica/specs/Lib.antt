@@ -1,8 +1,10 @@
 pub mod AskLaws
 pub mod Choices
+pub mod Examples
 pub mod MarginLaws
 pub mod Ordered
 pub mod Refusals
 pub mod Replica
 pub mod Steps
 pub mod Unique
+pub mod house

@@ -23,7 +23,7 @@ use Rattle.votes.specs.Rows.{voteAt, hasRow, noVotes, withVote}
 use Rattle.votes.specs.Request.{rowRefusals, gatheredRefusals, rowsSent}
 use Rattle.messages.specs.declared.Head.{Head}
 use Rattle.messages.specs.declared.Message.{Message}
-use Rattle.messages.specs.declared.Message.the-variants.{Propose, Acknowledge, Cast, Ask, Confirm}
+use Rattle.messages.specs.declared.Message.the-variants.{Start, Enter, Propose, Acknowledge, Cast, Ask, Confirm}
 use Rattle.messages.specs.declared.Assent.{Assent}
 use Rattle.messages.specs.declared.Proposal.{Proposal}
 use Rattle.messages.specs.declared.Request.{Request}
@@ -193,3 +193,13 @@ confirmed s =
 
 unfoldable pub confirmStep : Replica → Assent → Step
 confirmStep s c = answered s (confirmRefusals (standing s) (s .confirmed) (s .chosen) c) (confirmed (confirmedBy s c))
+
+-- ---- one event, whichever it is. The rows are a Q's: beside another message they do not count.
+abbrev pub step : Replica → Message → List Row → Step
+step s Start rows = startStep s
+step s (Enter v) rows = enterStep s v
+step s (Propose p) rows = proposeStep s p
+step s (Acknowledge a) rows = acknowledgeStep s a
+step s (Cast r) rows = castStep s r
+step s (Ask q) rows = askStep s q rows
+step s (Confirm c) rows = confirmStep s c

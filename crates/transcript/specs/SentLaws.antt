@@ -7,8 +7,8 @@ use mathlib.Core.Option.{none, some}
 use native.Mathlib.Omega.{arith}
 use lib.Dec.{T, eqb, leb}
 use borrow.Author.Tests.{eqb-true, le-leb}
-use Rattle.base.specs.Refusal.{Refusals, first}
-use Rattle.base.specs.RefusalLaws.{ascending, first-behind}
+use Rattle.base.specs.Refusal.{Refusals}
+use Rattle.base.specs.RefusalLaws.{front-none}
 use Rattle.base.specs.Tests.{true≢false}
 use Rattle.entry.specs.declared.Entry.{Entry}
 use Rattle.entry.specs.Entry.{wellFormed}
@@ -43,14 +43,6 @@ use Rattle.transcript.specs.Transcript.{stepFor}
 
 -- ---- what setup's refusals leave
 
--- Where a list of refusals has nothing to say, no front of it has.
-front-taken : (j : ℕ) (rs ss : Refusals) → T (ascending j rs) → first (rs ++ ss) ≡ 0 → first rs ≡ 0
-front-taken j rs ss t e = go (eqb (first rs) 0) refl (sym (first-behind j rs ss t) ∙ e)
-  where
-    go : (b : Bool) → eqb (first rs) 0 ≡ b → cond b (first ss) (first rs) ≡ 0 → first rs ≡ 0
-    go true p h = eqb-true (first rs) 0 p
-    go false p h = h
-
 -- The own seat can be written, and so can any count of seats.
 abbrev Small : Replica → Type 0
 Small s = (leb (s .seat .0) topSeat ≡ true) × (s .n ≤ topCount)
@@ -62,7 +54,7 @@ small s rs e = (le-leb (s .seat .0) topSeat (omega (arith, a .0 .most, a .1)), a
   where
     a : Allowed (s .n) (s .f) × (s .seat .0 < s .n)
     a = seat-taken (s .n) (s .f) (s .seat)
-        (front-taken 0 (sizeRefusals (s .n) (s .f) ++ ((3, leb (s .n) (s .seat .0)) ∷ [])) ((4, not (wellFormed (s .own))) ∷ rs) tt e)
+        (front-none (sizeRefusals (s .n) (s .f) ++ ((3, leb (s .n) (s .seat .0)) ∷ [])) ((4, not (wellFormed (s .own))) ∷ rs) tt e)
 
 -- ---- a step
 record Sendable (t : Step) : Type 0 where

@@ -4,9 +4,9 @@ use mathlib.Core.Path.{_≡_, refl, sym, ap, _∙_}
 use mathlib.Core.Bool.{Bool, true, false, cond}
 use lib.Dec.{eqb}
 use lib.IntN.{ℤ, pos}
-use borrow.Author.Tests.{eqb-true, eqb-false}
+use borrow.Author.Tests.{eqb-true, eq-eqb}
 use Rattle.base.specs.Refusal.{Refusals, first}
-use Rattle.base.specs.RefusalLaws.{first-behind}
+use Rattle.base.specs.RefusalLaws.{front-none}
 use Rattle.acks.specs.Acks.{rowOf, margin}
 use Rattle.messages.specs.declared.Assent.{Assent}
 use Rattle.replica.specs.declared.Replica.{Replica}
@@ -22,11 +22,7 @@ Counted s t = cond (eqb (t .number) 0) (margin (t .next .n) (t .next .f) (rowOf 
 -- Setup takes a replica that takes an event.
 own-taken : (s : Replica) (rs : Refusals) → numberFor s rs ≡ 0 → eqb (first (ownRefusals s)) 0 ≡ true
 unfolding numberFor
-own-taken s rs e = go (eqb (first (ownRefusals s)) 0) refl (sym (first-behind 0 (ownRefusals s) rs tt) ∙ e)
-  where
-    go : (b : Bool) → eqb (first (ownRefusals s)) 0 ≡ b → cond b (first rs) (first (ownRefusals s)) ≡ 0 → b ≡ true
-    go true p h = refl
-    go false p h = absurd (eqb-false (first (ownRefusals s)) 0 p h)
+own-taken s rs e = eq-eqb (first (ownRefusals s)) 0 (front-none (ownRefusals s) rs tt e)
 
 taken-counted : (s : Replica) (a : Assent) → eqb (first (ownRefusals s)) 0 ≡ true → Counted s (acknowledged (rowed s a) a)
 unfolding acknowledged marginOf

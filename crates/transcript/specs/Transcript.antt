@@ -6,7 +6,6 @@ use mathlib.Core.Option.{none, some}
 use lib.Dec.{eqb}
 use Rattle.text.specs.Digits.{decimal}
 use Rattle.text.specs.Fields.{lineEnd}
-use Rattle.messages.specs.declared.Message.the-variants.{Start, Enter, Propose, Acknowledge, Cast, Ask, Confirm}
 use Rattle.messages.specs.declared.setup.Setup.{Setup}
 use Rattle.messages.specs.declared.setup.Opening.{Opening}
 use Rattle.messages.specs.declared.setup.Opening.the-variants.{Read, Malformed}
@@ -14,7 +13,7 @@ use Rattle.messages.specs.Setup.{readSetup}
 use Rattle.replica.specs.declared.Replica.{Replica}
 use Rattle.replica.specs.declared.Step.{Step}
 use Rattle.replica.specs.Replica.{marginOf}
-use Rattle.replica.specs.Steps.{refused, setupStep, startStep, enterStep, proposeStep, acknowledgeStep, castStep, askStep, confirmStep}
+use Rattle.replica.specs.Steps.{refused, setupStep, step}
 use Rattle.transcript.specs.Texts.{linesOf}
 use Rattle.transcript.specs.Events.{Happening, happenings}
 use Rattle.transcript.specs.Printed.{told, printed}
@@ -22,13 +21,7 @@ use Rattle.transcript.specs.Printed.{told, printed}
 -- "Any other malformed line .. is an event with 19."
 abbrev pub stepFor : Replica → Happening → Step
 stepFor s none = refused 19 s
-stepFor s (some (Start, rows)) = startStep s
-stepFor s (some (Enter v, rows)) = enterStep s v
-stepFor s (some (Propose p, rows)) = proposeStep s p
-stepFor s (some (Acknowledge a, rows)) = acknowledgeStep s a
-stepFor s (some (Cast r, rows)) = castStep s r
-stepFor s (some (Ask q, rows)) = askStep s q rows
-stepFor s (some (Confirm c, rows)) = confirmStep s c
+stepFor s (some x) = step s (x .0) (x .1)
 
 -- Event after event, the first of them number k.
 unfoldable pub toldOf : Replica → ℕ → List Happening → List ℕ

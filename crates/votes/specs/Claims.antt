@@ -1,6 +1,6 @@
 -- What marks and mask bits claim of correct seats: "Let a verified mark or mask bit for a correct seat appear only for a statement
 -- that this seat sent."
-use Prim.Native.Nat.{ℕ, _<_}
+use Prim.Native.Nat.{ℕ, _≤_, _<_}
 use mathlib.Core.Bool.{Bool, true, not}
 use mathlib.Core.List.{List, [], _∷_}
 use lib.Dec.{T}
@@ -19,8 +19,8 @@ module _ (n : ℕ) (bad : ℕ → Bool) (h : History) where
   pub record Claim (mark : Bool) (k v : ℕ) (x : Vote) : Type 0 where
     -- "A message's mark speaks for its sender and covers .. in V, view and the whole vote"
     pub said : T mark → k < n → T (not (bad k)) → h .voted k v x
-    -- "The mark inside a vote speaks for the leader of u and covers P, u and entry."
-    pub led : T (x .cast) → T (x .verified) → T (not (bad (leader (x .view .0) n))) → h .proposed (leader (x .view .0) n) (x .view .0) (x .entry)
+    -- "The mark inside a vote speaks for the leader of u and covers P, u and entry." Nobody leads view 0.
+    pub led : T (x .cast) → T (x .verified) → 1 ≤ x .view .0 → T (not (bad (leader (x .view .0) n))) → h .proposed (leader (x .view .0) n) (x .view .0) (x .entry)
     -- "A mask bit covers that seat's C for that view and entry."
     pub signed : T (x .cast) → (j : ℕ) → j < n → T (bit (x .mask) j) → T (not (bad j)) → h .confirmed j (x .view .0) (x .entry)
 

@@ -5,12 +5,14 @@ pub mod Gather
 pub mod History
 pub mod Request
 pub mod RequestLaws
+pub mod RequestSafety
 pub mod RowLaws
 pub mod Rows
 pub mod Safety
 pub mod SafetyWitness
 pub mod Selection
 pub mod SelectionExt
+pub mod SentLaws
 pub mod Smallest
 pub mod Steps
 pub mod TableLaws

@@ -120,7 +120,7 @@ gathered-request n f v rows e taken =
 
 -- ---- the rows that a leader sends
 module _ (n f : ℕ) (v : View) (t : VoteRows) where
-  abbrev sends : ℕ → Bool
+  abbrev pub sends : ℕ → Bool
   sends k = ltb k n && hasRow n f v t k
 
   row-length : (k : ℕ) (rs : List Row) → length (rowList (rowSent n f v t (record { 0 = k })) rs) ≡ b2n (sends k) + length rs
@@ -149,7 +149,7 @@ module _ (n f : ℕ) (v : View) (t : VoteRows) where
       )
 
   -- They rise from k on, and each is sound.
-  sent-fits : (k d s : ℕ) → s ≤ k → T (rising n s (sentFrom n f v t k d)) × T (allSound n f v (sentFrom n f v t k d))
+  pub sent-fits : (k d s : ℕ) → s ≤ k → T (rising n s (sentFrom n f v t k d)) × T (allSound n f v (sentFrom n f v t k d))
   unfolding rowSent rowAt
   sent-fits k zero s h = (tt, tt)
   sent-fits k (suc d) s h = go (sends k) refl (sent-fits (suc k) d s (omega arith)) (sent-fits (suc k) d (k + 1) (omega arith))

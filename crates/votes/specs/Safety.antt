@@ -81,7 +81,8 @@ module _ {n f : ℕ} {bad : ℕ → Bool} (house : House n f bad) where
     -- A correct leader of w proposed it.
     row-led : (w : ℕ) (x : Entry) → row w x → T (not (bad (leader w n))) → h .proposed (leader w n) w x
     row-led w x r = subst₂ (λ u y. T (not (bad (leader u n))) → h .proposed (leader u n) u y) (r .at) (r .is)
-        (rows .claim (r .seat) (r .inside) (r .filled) .led (r .cast) (valid-marked n f view (vote (r .seat)) (row-valid r) (r .cast)))
+        (rows .claim (r .seat) (r .inside) (r .filled) .led (r .cast) (valid-marked n f view (vote (r .seat)) (row-valid r) (r .cast))
+        (valid-below n f view (vote (r .seat)) (row-valid r) (r .cast) .0))
 
     -- Rows of more than f correct seats that do not tell of y in w.
     dead-by : (w : ℕ) (y : Entry) → w < v → (B : ℕ → Bool) → f < count (λ k. B k && not (bad k)) n → ((k : ℕ) → k < n → T (B k) → T (has k))

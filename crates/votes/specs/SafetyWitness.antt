@@ -53,7 +53,7 @@ module _ (bad : ℕ → Bool) (h : History) (k v : ℕ) where
 
   -- Seat 1 leads view 1, and its certificate names no seat.
   pub for-one : (e : Entry) → (T (not (bad k)) → h .voted k v (for e 1 0)) → (T (not (bad 1)) → h .proposed 1 1 e) → Claim 4 bad h true k v (for e 1 0)
-  for-one e said led = record { said = λ m l. said; led = λ c m. led; signed = λ c j l m o. absurd (subst T (bit-zero j) m) }
+  for-one e said led = record { said = λ m l. said; led = λ c m p. led; signed = λ c j l m o. absurd (subst T (bit-zero j) m) }
 
 -- ---- one entry at the highest view: seat 3 is faulty
 abbrev pub third : ℕ → Bool

@@ -96,7 +96,7 @@ claims-3 = (zero-claim 3 (lit≤ tt) (lit≤ tt), (two-claim 3 (lit≤ tt) (lit�
     signed-claim : Claim 4 first run true 3 3 b2
     signed-claim = record {
       said = λ m l o. inr (refl, refl);
-      led = λ c m o. (refl, refl);
+      led = λ c m p o. (refl, refl);
       signed = λ c. by-seat (λ j. T (bit 0x5 j) → T (not (first j)) → run .confirmed j 2 b)
           (λ m o. (inl refl, refl, refl)) (λ m. absurd m) (λ m o. (inr refl, refl, refl)) (λ m. absurd m);
     }

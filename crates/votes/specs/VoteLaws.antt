@@ -5,6 +5,7 @@ use mathlib.Core.Logic.{_↔_}
 use native.Mathlib.Omega.{arith}
 use lib.Dec.{T, leb→le, ltb→lt}
 use Rattle.base.specs.Tests.{and-l, and-r, and-i}
+use Rattle.entry.specs.Entry.{wellFormed}
 use Rattle.seats.specs.declared.View.{View}
 use Rattle.seats.specs.Certificate.{goodCertificate}
 use Rattle.votes.specs.declared.Vote.{Vote}
@@ -25,6 +26,11 @@ module _ (n f : ℕ) (v : View) (x : Vote) (t : T (valid n f v x)) (c : T (x .ca
   valid-below =
       let tests = simp both at (or-not (x .cast) _ c t) in
       omega (arith, leb→le, ltb→lt)
+
+  -- "its entry is well formed"
+  pub valid-formed : T (wellFormed (x .entry))
+  unfolding valid
+  valid-formed = let tests = or-not (x .cast) _ c t in search (and-l, and-r)
 
   -- "its certificate is good for u"
   pub valid-certificate : T (goodCertificate n f (x .view) (x .mask))

@@ -1,0 +1,17 @@
+pub mod Acting
+pub mod Agreement
+pub mod Cases
+pub mod Claims
+pub mod Confirmation
+pub mod Histories
+pub mod Holding
+pub mod Keeping
+pub mod Kept
+pub mod Lasting
+pub mod Proposing
+pub mod ProposesOnce
+pub mod Requests
+pub mod Runs
+pub mod Seating
+pub mod Taken
+pub mod Voting
