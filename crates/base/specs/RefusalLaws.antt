@@ -98,3 +98,21 @@ clear-behind (r ∷ rs) ss c = clear-behind rs ss (c .1)
 pub clear-both : (rs ss : Refusals) → Clear rs → Clear ss → Clear (rs ++ ss)
 clear-both [] ss c d = d
 clear-both (r ∷ rs) ss c d = (c .0, clear-both rs ss (c .1) d)
+
+-- Two lists, of which the first gives no number and the second has no test that passes.
+pub none-both : (rs ss : Refusals) → T (ascending 0 rs) → first rs ≡ 0 → Clear ss → first (rs ++ ss) ≡ 0
+none-both rs ss up e c = clear-none (rs ++ ss) (clear-both rs ss (clear 0 rs up e) c)
+
+-- The test that a list has under number k, if it has one.
+abbrev pub under : ℕ → Refusals → Bool
+under k [] = false
+under k (r ∷ rs) = cond (eqb (r .0) k) (r .1) (under k rs)
+
+-- Where no test passes, that one does not.
+pub unless : (k : ℕ) (rs : Refusals) → Clear rs → T (not (under k rs))
+unless k [] c = tt
+unless k (r ∷ rs) c = go (eqb (r .0) k) (unless k rs (c .1))
+  where
+    go : (b : Bool) → T (not (under k rs)) → T (not (cond b (r .1) (under k rs)))
+    go true later = c .0
+    go false later = later

@@ -35,6 +35,11 @@ false-is false t = refl
 pub is-false : (b : Bool) → b ≡ false → T (not b)
 is-false b e = subst (λ x. T (not x)) (sym e) tt
 
+-- A test whose failure is refused: where it passes, it is not.
+pub unrefused : (b : Bool) → T b → T (not (not b))
+unrefused true t = tt
+unrefused false t = t
+
 pub true≢false : {A : Type 0} → true ≡ false → A
 true≢false e = absurd (subst T e tt)
 

@@ -6,7 +6,7 @@ use mathlib.Core.Logic.{inl, inr}
 use mathlib.Core.Option.{Option, none, some}
 use native.Mathlib.Omega.{arith}
 use native.Mathlib.Decide.{ℕ-discrete, decLt}
-use lib.Dec.{T, T-not}
+use lib.Dec.{T-not}
 use Rattle.base.specs.Tests.{T-dec, is-true}
 use Rattle.entry.specs.declared.Entry.{Entry}
 use Rattle.entry.specs.Entry.{same}
@@ -14,11 +14,11 @@ use Rattle.entry.specs.Laws.{same-eq, eq-same}
 use Rattle.seats.specs.declared.View.{View}
 use Rattle.seats.specs.Quorums.{House, quorums-meet}
 use Rattle.votes.specs.Safety.{dead-undecided}
-use Rattle.replica.specs.house.Acting.{setting-house}
+use Rattle.replica.specs.house.FairSteps.{setting-house}
 use Rattle.replica.specs.house.Claims.{acknowledges}
 use Rattle.replica.specs.house.Histories.{historyOf}
-use Rattle.replica.specs.house.Holding.{Quorum, Fine, Holds, by-seat, said-backed}
-use Rattle.replica.specs.house.Lasting.{run-holds}
+use Rattle.replica.specs.house.Invariant.{Quorum, Fine, Holds, by-seat, said-backed}
+use Rattle.replica.specs.house.EveryRun.{run-holds}
 use Rattle.replica.specs.house.Runs.{Member, Members, Among, allSaid, sentBy, reportsOf, Said, Reported, Setting, Correct, Run}
 
 module _ (n f : ℕ) (faulty : ℕ → Bool) (setting : Setting n f faulty) where

@@ -1,6 +1,6 @@
 -- What an event asserts of the seats, by its verified marks and mask bits.
 use Prim.Native.Nat.{ℕ, zero, suc}
-use mathlib.Core.Bool.{Bool, _&&_, cond}
+use mathlib.Core.Bool.{_&&_, cond}
 use mathlib.Core.List.{List, [], _∷_, _++_}
 use lib.Dec.{leb}
 use Rattle.entry.specs.declared.Entry.{Entry}

@@ -10,7 +10,7 @@ use Rattle.messages.specs.declared.Request.{Request}
 use Rattle.replica.specs.declared.Decided.{Decided}
 use Rattle.replica.specs.declared.Sent.{Sent}
 use Rattle.replica.specs.Steps.{stepOf, step}
-use Rattle.replica.specs.house.Lasting.{run-kept}
+use Rattle.replica.specs.house.EveryRun.{run-kept}
 use Rattle.replica.specs.house.Runs.{Member, Members, Among, Setting, Correct, Run}
 
 -- "a request sent by a correct leader, delivered unaltered with its rows and marks to a correct seat then in that view, is always

@@ -5,7 +5,7 @@ use mathlib.Core.Bool.{Bool}
 use mathlib.Core.Option.{some}
 use Rattle.seats.specs.declared.View.{View}
 use Rattle.replica.specs.house.Kept.{proposalsIn}
-use Rattle.replica.specs.house.Lasting.{run-kept}
+use Rattle.replica.specs.house.EveryRun.{run-kept}
 use Rattle.replica.specs.house.Runs.{Member, Members, allSaid, Setting, Correct, Run}
 
 -- Among all that a correct seat sent there is at most one P of a view, be it for one entry or for two.

@@ -1,35 +1,29 @@
 -- A seat proposes once a view: after its P the stage is proposed, until it enters a later view.
 use Prim.Native.Nat.{ℕ, _+_, _≤_, _<_}
 use mathlib.Core.Path.{_≡_, refl, sym, ap, _∙_, subst}
-use mathlib.Core.Bool.{Bool, true, false, not, Bool·not-not}
+use mathlib.Core.Bool.{Bool, true, false}
 use mathlib.Core.List.{List, [], _∷_}
 use mathlib.Core.Logic.{inl, inr}
 use native.Mathlib.Omega.{arith}
 use native.Mathlib.Nat.{lt-of-not-le}
-use lib.Dec.{T, eqb, eqb→eq, nleb→lt}
-use borrow.Author.Tests.{eqb-false, eqb-true, eq-eqb}
-use Rattle.base.specs.Refusal.{Refusals}
-use Rattle.base.specs.RefusalLaws.{Clear}
-use Rattle.base.specs.Tests.{false-is}
+use lib.Dec.{eqb}
+use borrow.Author.Tests.{eqb-true, eq-eqb}
 use Rattle.entry.specs.declared.Entry.{Entry}
 use Rattle.seats.specs.declared.Seat.{Seat}
 use Rattle.seats.specs.declared.View.{View}
 use Rattle.seats.specs.Seats.{b2n}
 use Rattle.votes.specs.declared.Row.{Row}
 use Rattle.messages.specs.declared.Message.{Message}
-use Rattle.messages.specs.declared.Message.the-variants.{Start, Enter, Propose, Acknowledge, Cast, Ask, Confirm}
 use Rattle.replica.specs.declared.Replica.{Replica}
 use Rattle.replica.specs.declared.Step.{Step}
-use Rattle.replica.specs.Ordered.{Rises}
-use Rattle.replica.specs.Refusals.{collecting, asking, proposed}
+use Rattle.replica.specs.Refusals.{collecting, proposed}
 use Rattle.replica.specs.Replica.{fresh}
-use Rattle.replica.specs.Steps.{answered, filledBy, confirmedBy}
-use Rattle.replica.specs.Steps.{startStep, enterStep, proposeStep, acknowledgeStep, castStep, askStep, confirmStep, step}
-use Rattle.replica.specs.house.Cases.{by-answer}
+use Rattle.replica.specs.Steps.{step}
+use Rattle.replica.specs.house.Outcomes.{start-new, enter-later, cast-collecting, confirm-asking}
+use Rattle.replica.specs.house.Outcomes.{Outcome, refuse, start, enter, accept, note, decide, fill, ask, confirm, add, propose, outcome}
 use Rattle.replica.specs.house.Claims.{proposes, Claim}
 use Rattle.replica.specs.house.Kept.{Seated, Leading, proposalIn, proposalsIn}
 use Rattle.replica.specs.house.Runs.{Member, Among, allSaid, after}
-use Rattle.replica.specs.house.Taken.{by-acknowledged, by-collected, by-confirmed}
 
 -- ---- one proposal a view
 module _ (k : ℕ) (v : View) where
@@ -64,11 +58,6 @@ leading-begun k n f seat own = record {
 }
 
 -- ---- the events
-
--- 13 does not apply: the stage is the one asked for.
-staged : (j x : ℕ) → T (not (not (eqb x j))) → x ≡ j
-staged j x t = eqb→eq x j (subst T (Bool·not-not (eqb x j)) t)
-
 module _ (n f k : ℕ) (m : Member) (seated : Seated n f k (m .replica)) (i : Leading k (m .replica) (allSaid (m .sent))) where
   abbrev s : Replica
   s = m .replica
@@ -83,7 +72,7 @@ module _ (n f k : ℕ) (m : Member) (seated : Seated n f k (m .replica)) (i : Le
   silent t ys none up stays late = record {
     spoken = λ v l.
         let h = i .spoken v (omega (arith, none v)) in
-        (omega (arith, h .0), λ e. stays (omega (arith, h .0)) (h .1 (omega (arith, h .0))));
+        (omega arith, λ e. stays (omega arith) (h .1 (omega arith)));
     one = λ v. omega (arith, none v, i .one v);
     later = late;
   }
@@ -109,32 +98,24 @@ module _ (n f k : ℕ) (m : Member) (seated : Seated n f k (m .replica)) (i : Le
           (λ l. omega arith, omega arith)
       go v false p = (λ l. i .spoken v (omega arith) .0, omega (arith, i .one v))
 
-  abbrev Next : Step → Type 0
-  Next t = Leading k (after m t .replica) (allSaid (after m t .sent))
-
-  -- A refusal says nothing and leaves everything.
-  leading-answer : (rs : Refusals) (t : Step) → Rises s rs → (Clear rs → Next t) → Next (answered s rs t)
-  leading-answer rs t up taken = by-answer Next s rs t up (λ number. alike s _ refl refl (λ v. omega arith)) taken
+  -- S says a P, and so does the C that is enough; E comes to a view in which nothing was said.
+  leading-outcome : {message : Message} {rows : List Row} {t : Step} → Outcome s rows message t → Leading k (t .next) (allSaid (after m t .sent))
+  leading-outcome (refuse number) = i
+  leading-outcome (start c) = aloud _ _ _ refl refl (start-new s c)
+  leading-outcome (enter v c) =
+      let l = enter-later s v c in
+      silent _ _ (omega arith) (omega arith) (λ e. absurd (omega arith)) (λ e. omega (arith, seated .in-view))
+  leading-outcome (accept p c) = alike _ _ refl refl (omega arith)
+  leading-outcome (note a c) = alike _ _ refl refl (omega arith)
+  leading-outcome (decide a c d) = alike _ _ refl refl (omega arith)
+  leading-outcome (fill r c) = alike _ _ refl refl (omega arith)
+  leading-outcome (ask r e c d) =
+      let l = cast-collecting s r c in
+      silent _ _ (omega arith) (omega arith) (λ q p. absurd (omega arith)) (λ q. absurd (omega arith))
+  leading-outcome (confirm q c) = alike _ _ refl refl (omega arith)
+  leading-outcome (add a c) = alike _ _ refl refl (omega arith)
+  leading-outcome (propose a c d) = aloud _ _ _ refl refl (λ p. omega (arith, confirm-asking s a c))
 
   pub leading-step : (message : Message) (rows : List Row)
-      → Leading k (after m (step (m .replica) message rows) .replica) (allSaid (after m (step (m .replica) message rows) .sent))
-  unfolding startStep enterStep proposeStep acknowledgeStep castStep askStep confirmStep
-  -- 12: the stage was not proposed.
-  leading-step Start rows = leading-answer _ _ tt (λ c. aloud _ _ _ refl refl (eqb-false _ _ (false-is _ (c .1 .1 .0))))
-  -- 8: the view is a later one.
-  leading-step (Enter v) rows = leading-answer _ _ tt (λ c.
-      let l = nleb→lt (v .0) (s .view .0) (c .1 .0) in
-      silent _ _ (λ w. omega arith) (omega arith) (λ e. absurd (omega arith)) (λ e. omega (arith, seated .in-view)))
-  leading-step (Propose p) rows = leading-answer _ _ tt (λ c. alike _ _ refl refl (λ v. omega arith))
-  leading-step (Acknowledge a) rows =
-      leading-answer _ _ tt (λ c. by-acknowledged Next _ a (alike _ _ refl refl (λ v. omega arith)) (alike _ _ refl refl (λ v. omega arith)))
-  -- 13: the stage was collecting.
-  leading-step (Cast r) rows = leading-answer _ _ tt (λ c. by-collected Next (filledBy s r)
-      (λ e. silent _ _ (λ v. omega arith) (omega arith)
-      (λ q p. absurd (omega (arith, staged collecting (s .stage .0) (c .1 .1 .1 .1 .1 .1 .0)))) (λ q. absurd (omega (arith, q))))
-      (alike _ _ refl refl (λ v. omega arith)))
-  leading-step (Ask q) rows = leading-answer _ _ tt (λ c. alike _ _ refl refl (λ v. omega arith))
-  -- 13: the stage was asking.
-  leading-step (Confirm c) rows = leading-answer _ _ tt (λ d. by-confirmed Next (confirmedBy s c)
-      (aloud _ _ _ refl refl (λ p. omega (arith, staged asking (s .stage .0) (d .1 .1 .1 .1 .1 .1 .1 .0))))
-      (alike _ _ refl refl (λ v. omega arith)))
+      → Leading k (step (m .replica) message rows .next) (allSaid (after m (step (m .replica) message rows) .sent))
+  leading-step message rows = leading-outcome (outcome s rows message)

@@ -13,6 +13,7 @@ use Rattle.seats.specs.Seats.{count}
 use Rattle.seats.specs.Sizes.{sizeRefusals}
 use Rattle.votes.specs.declared.Row.{Row}
 use Rattle.messages.specs.declared.Message.{Message}
+use Rattle.messages.specs.declared.Message.the-variants.{Start, Enter, Propose, Acknowledge, Cast, Ask, Confirm}
 use Rattle.replica.specs.declared.Replica.{Replica}
 use Rattle.replica.specs.declared.Decided.{Decided}
 use Rattle.replica.specs.declared.Sent.{Sent}
@@ -22,16 +23,26 @@ use Rattle.replica.specs.house.Claims.{Claim, said, claims}
 
 -- ---- one seat
 
--- A seat that has begun: its replica, what it sent, each message with the rows of a Q, and the decisions it reported. Latest first.
+-- A seat that has begun: its replica, what it sent, each Q with its rows, and the decisions that it reported. Latest first.
 pub record Member : Type 0 where
   pub replica : Replica
   pub sent : List (Message × List Row)
   pub reports : List Entry
 
--- "at most one outgoing message"; a Q's rows are those of the replica handed back.
+-- "sends Q with all filled rows in seat order": those of the replica handed back. No other message has rows.
+abbrev pub rowsBeside : Replica → Message → List Row
+rowsBeside s Start = []
+rowsBeside s (Enter v) = []
+rowsBeside s (Propose p) = []
+rowsBeside s (Acknowledge a) = []
+rowsBeside s (Cast r) = []
+rowsBeside s (Ask q) = requestRows s
+rowsBeside s (Confirm c) = []
+
+-- "at most one outgoing message"
 abbrev pub sending : Replica → Sent → List (Message × List Row)
 sending s Sent.Nothing = []
-sending s (Sent.Message m) = (m, requestRows s) ∷ []
+sending s (Sent.Message m) = (m, rowsBeside s m) ∷ []
 
 -- "and possibly a decision come out": what the answer says, not what a field holds.
 abbrev pub reporting : Decided → List Entry
@@ -39,7 +50,7 @@ reporting Decided.Nothing = []
 reporting (Decided.Now e) = e ∷ []
 
 abbrev pub begun : Step → Member
-begun t = record { replica = t .next; sent = []; reports = [] }
+begun t = record { replica = t .next; sent = sending (t .next) (t .sent); reports = reporting (t .decided) }
 
 abbrev pub after : Member → Step → Member
 after m t = record {

@@ -1,40 +1,32 @@
 -- Every step keeps `Voting` of Kept.antt: the vote held goes on telling of all that was acknowledged.
 use Prim.Native.Nat.{ℕ, _≤_, _<_}
 use mathlib.Core.Path.{_≡_, refl, sym, ap, _∙_, subst}
-use mathlib.Core.Bool.{Bool, true, false, not, _&&_, cond}
+use mathlib.Core.Bool.{Bool, true, false, cond}
 use mathlib.Core.List.{List, [], _∷_, _++_}
 use mathlib.Core.Logic.{_⊎_, inl, inr}
-use native.Mathlib.Nat.{le-refl}
+use native.Mathlib.Nat.{le-refl, le-of-lt}
 use native.Mathlib.Omega.{arith}
-use lib.Dec.{T, leb, nleb→lt}
-use borrow.Author.Tests.{eqb-true, eqb-false, not-false}
-use Rattle.base.specs.Tests.{true-is, false-is}
+use lib.Dec.{T}
+use Rattle.base.specs.Tests.{true-is}
 use Rattle.entry.specs.declared.Entry.{Entry}
 use Rattle.seats.specs.declared.Seat.{Seat}
 use Rattle.seats.specs.declared.View.{View}
-use Rattle.seats.specs.Seats.{count}
-use Rattle.seats.specs.Mask.{bit}
-use Rattle.seats.specs.Certificate.{signers}
 use Rattle.votes.specs.declared.Vote.{Vote}
 use Rattle.votes.specs.declared.Row.{Row}
-use Rattle.votes.specs.declared.Choice.{Choice}
 use Rattle.votes.specs.Rows.{zeroVote}
 use Rattle.votes.specs.History.{Covers}
 use Rattle.messages.specs.declared.Message.{Message}
-use Rattle.messages.specs.declared.Message.the-variants.{Start, Enter, Propose, Acknowledge, Cast, Ask, Confirm}
-use Rattle.messages.specs.declared.Assent.{Assent}
 use Rattle.messages.specs.declared.Proposal.{Proposal}
-use Rattle.messages.specs.declared.Request.{Request}
 use Rattle.replica.specs.declared.Replica.{Replica}
 use Rattle.replica.specs.declared.Step.{Step}
-use Rattle.replica.specs.Refusals.{isView}
 use Rattle.replica.specs.Replica.{fresh, withVote}
-use Rattle.replica.specs.Steps.{startStep, enterStep, proposeStep, acknowledgeStep, castStep, askStep, confirmStep, step}
-use Rattle.replica.specs.Steps.{voteFor, rowed, decides, acknowledged, filledBy, selectionOf, chooses, collected, confirmedBy, confirmed}
-use Rattle.replica.specs.house.Cases.{by-answer}
+use Rattle.replica.specs.Steps.{voteFor, step}
+use Rattle.replica.specs.house.Outcomes.{enter-later, proposal-here, proposal-new}
+use Rattle.replica.specs.house.Outcomes.{Outcome, refuse, start, enter, accept, note, decide, fill, ask, confirm, add, propose, outcome}
 use Rattle.replica.specs.house.Claims.{Statement, proposes, acknowledges, votes, asks, confirms, Claim, whole}
-use Rattle.replica.specs.house.Runs.{Member, sending, after, Among, allSaid}
+use Rattle.replica.specs.house.Histories.{Each, each-or}
 use Rattle.replica.specs.house.Kept.{Seated, Voting}
+use Rattle.replica.specs.house.Runs.{Member, after, Among, allSaid}
 
 -- ---- the whole vote tells what the vote tells
 
@@ -47,14 +39,14 @@ covers-whole x w e = go (x .cast)
     go false c = absurd (c .cast)
 
 -- A vote that tells of something is not nil.
-pub whole-covers : (x : Vote) (w : ℕ) (e : Entry) → Covers x w e → Covers (whole x) w e
+whole-covers : (x : Vote) (w : ℕ) (e : Entry) → Covers x w e → Covers (whole x) w e
 whole-covers x w e c = subst (λ y. Covers y w e) (sym (ap (λ b. cond b x zeroVote) (true-is (x .cast) (c .cast)))) c
 
--- ---- a fresh replica has said nothing and holds nil
+-- ---- setup: a fresh replica has said nothing and holds nil
 pub voting-begun : (k n f : ℕ) (seat : Seat) (own : Entry) → Voting k (fresh n f seat own) []
 voting-begun k n f seat own = record { behind = λ t. absurd t; acked = λ w e h. absurd h; once = λ w x y h. absurd h; voted = λ u x h. absurd h }
 
--- ---- a step
+-- ---- the events
 
 -- What may be said beside a vote that is held: no A, and a V only for a view come to, which tells all that the vote tells.
 abbrev Beside : Replica → Statement → Type 0
@@ -64,45 +56,36 @@ Beside t (votes v x) = (v .0 ≤ t .view .0) × ((w : ℕ) (e : Entry) → Cover
 Beside t (asks v e) = Unit {0}
 Beside t (confirms v e) = Unit {0}
 
--- What holds of both ways holds of the way taken.
-by-cond : (P : Step → Type 0) (b : Bool) (t u : Step) → P t → P u → P (cond b t u)
-by-cond P true t u p q = p
-by-cond P false t u p q = q
+module _ (n f k : ℕ) (m : Member) (seated : Seated n f k (m .replica)) (i : Voting k (m .replica) (allSaid (m .sent))) where
+  abbrev s : Replica
+  s = m .replica
 
-module _ (k : ℕ) (s : Replica) (sent : List (Message × List Row)) (i : Voting k s (allSaid sent)) where
-  -- The same vote, in the same view or a later one, and nothing said.
-  vote-held : (t : Replica) → t .vote ≡ s .vote → s .view .0 ≤ t .view .0 → Voting k t (allSaid sent)
-  vote-held t q up = record {
+  abbrev xs : List Claim
+  xs = allSaid (m .sent)
+
+  -- The same vote, in the same view or a later one, and what may be said beside it.
+  vote-held : (t : Replica) (zs : List Claim) → t .vote ≡ s .vote → s .view .0 ≤ t .view .0 → Each (λ c. Beside t (c .1)) zs → Voting k t (zs ++ xs)
+  vote-held t zs q up beside = record {
     behind = rw q (λ h. omega (arith, i .behind h));
-    acked = rw q (λ w e h. let a = i .acked w e h in (a .0, omega arith, a .2));
-    once = i .once;
-    voted = λ u x h. let a = i .voted u x h in (omega arith, a .1);
-  }
-
-  -- The same, and something said.
-  vote-beside : (t : Replica) (c : Claim) → t .vote ≡ s .vote → s .view .0 ≤ t .view .0 → Beside t (c .1) → Voting k t (c ∷ allSaid sent)
-  vote-beside t c q up beside = record {
-    behind = held .behind;
-    acked = λ w e h. held .acked w e (before w e h);
-    once = λ w x y g h. held .once w x y (before w x g) (before w y h);
-    voted = λ u x. elim [
-      | inl p ↦ let a = subst (λ d. Beside t (d .1)) (sym p) beside in (a .0, λ w e l h. a .1 (w .0) e (held .acked w e (before w e h) .2))
-      | inr g ↦ let a = held .voted u x g in (a .0, λ w e l h. a .1 w e l (before w e h))
+    acked = λ w e h. let a = i .acked w e (before w e h) in (a .0, omega arith, told w e h);
+    once = λ w x y g h. i .once w x y (before w x g) (before w y h);
+    voted = λ u x h. elim (each-or _ (k, votes u x) zs xs beside h) [
+      | inl a ↦ (a .0, λ w e l g. a .1 (w .0) e (told w e g))
+      | inr b ↦ let a = i .voted u x b in (omega arith, λ w e l g. a .1 w e l (before w e g))
     ];
   }
     where
-      held : Voting k t (allSaid sent)
-      held = vote-held t q up
-
       -- No A is said, so each acknowledgement was there before.
-      before : (w : View) (e : Entry) → Among (k, acknowledges w e) (c ∷ allSaid sent) → Among (k, acknowledges w e) (allSaid sent)
-      before w e (inl p) = absurd (subst (λ d. Beside t (d .1)) (sym p) beside)
-      before w e (inr h) = h
+      before : (w : View) (e : Entry) → Among (k, acknowledges w e) (zs ++ xs) → Among (k, acknowledges w e) xs
+      before w e h = elim (each-or _ (k, acknowledges w e) zs xs beside h) [ inl b ↦ absurd b | inr b ↦ b ]
+
+      told : (w : View) (e : Entry) → Among (k, acknowledges w e) (zs ++ xs) → Covers (t .vote) (w .0) e
+      told w e h = subst (λ x. Covers x (w .0) e) (sym q) (i .acked w e (before w e h) .2)
 
   -- A new vote, of the current view, where the vote held was not of this view; and its A.
-  vote-new : (p : Proposal) → 1 ≤ s .view .0 → p .head .view .0 ≡ s .view .0 → (T (s .vote .cast) → s .vote .view .0 ≡ p .head .view .0 → ⊥)
-      → Voting k (withVote s (voteFor p)) ((s .seat .0, acknowledges (p .head .view) (p .entry)) ∷ allSaid sent)
-  vote-new p some here new = record {
+  vote-new : (p : Proposal) → p .head .view .0 ≡ s .view .0 → (T (s .vote .cast) → s .vote .view .0 ≡ p .head .view .0 → ⊥)
+      → Voting k (withVote s (voteFor p)) ((s .seat .0, acknowledges (p .head .view) (p .entry)) ∷ xs)
+  vote-new p here new = record {
     behind = λ t. omega (arith, here);
     acked = λ w e h. elim (latest w e h) [
       | inl a ↦ (omega (arith, a .0), omega (arith, a .0), record { cast = tt; up = omega (arith, a .0); same = λ q. a .1 })
@@ -121,81 +104,25 @@ module _ (k : ℕ) (s : Replica) (sent : List (Message × List Row)) (i : Voting
   }
     where
       -- An acknowledgement is this one, or of a view before: its view is not above that of the vote held.
-      latest : (w : View) (e : Entry) → Among (k, acknowledges w e) ((s .seat .0, acknowledges (p .head .view) (p .entry)) ∷ allSaid sent)
-          → ((w .0 ≡ p .head .view .0) × (e ≡ p .entry)) ⊎ ((w .0 < p .head .view .0) × Among (k, acknowledges w e) (allSaid sent))
+      latest : (w : View) (e : Entry) → Among (k, acknowledges w e) ((s .seat .0, acknowledges (p .head .view) (p .entry)) ∷ xs)
+          → ((w .0 ≡ p .head .view .0) × (e ≡ p .entry)) ⊎ ((w .0 < p .head .view .0) × Among (k, acknowledges w e) xs)
       latest w e (inl q) = let r = ap (λ c. c .1) q in inl (cc, cc)
       latest w e (inr h) = let a = i .acked w e h .2 in inr (omega (arith, a .up, i .behind (a .cast), new (a .cast)), h)
 
-  -- ---- event by event. A refusal leaves all as it was.
-  abbrev Keeps : Step → Type 0
-  Keeps t = Voting k (t .next) (allSaid (sending (t .next) (t .sent) ++ sent))
+  -- P alone changes the vote, and E sends it.
+  voting-outcome : {message : Message} {rows : List Row} {t : Step} → Outcome s rows message t → Voting k (t .next) (allSaid (after m t .sent))
+  voting-outcome (refuse number) = i
+  voting-outcome (start c) = vote-held _ (_ ∷ []) refl (le-refl _) (tt, tt)
+  voting-outcome (enter v c) = vote-held _ (_ ∷ []) refl (le-of-lt (enter-later s v c)) ((le-refl _, whole-covers (s .vote)), tt)
+  voting-outcome (accept p c) = vote-new p (proposal-here s p c) (proposal-new s p c)
+  voting-outcome (note a c) = vote-held _ [] refl (le-refl _) tt
+  voting-outcome (decide a c d) = vote-held _ [] refl (le-refl _) tt
+  voting-outcome (fill r c) = vote-held _ [] refl (le-refl _) tt
+  voting-outcome (ask r e c d) = vote-held _ (_ ∷ []) refl (le-refl _) (tt, tt)
+  voting-outcome (confirm q c) = vote-held _ (_ ∷ []) refl (le-refl _) (tt, tt)
+  voting-outcome (add a c) = vote-held _ [] refl (le-refl _) tt
+  voting-outcome (propose a c d) = vote-held _ (_ ∷ []) refl (le-refl _) (tt, tt)
 
-  -- A P is said.
-  start-keeps : Keeps (startStep s)
-  unfolding startStep
-  start-keeps = by-answer Keeps s _ _ tt (λ number. i) (λ c. vote-beside _ _ refl (le-refl _) tt)
-
-  -- By 8 the view is a later one. The V is of the vote held.
-  enter-keeps : (v : View) → Keeps (enterStep s v)
-  unfolding enterStep
-  enter-keeps v =
-      by-answer Keeps s _ _ tt (λ number. i)
-      (λ c. vote-beside _ _ refl (omega (arith, nleb→lt (v .0) (s .view .0) (c .1 .0))) (le-refl _, whole-covers (s .vote)))
-
-  -- By 8 the view is the current one, and by 12 the vote held is not of it.
-  propose-keeps : 1 ≤ s .view .0 → (p : Proposal) → Keeps (proposeStep s p)
-  unfolding proposeStep
-  propose-keeps some p =
-      by-answer Keeps s _ _ tt (λ number. i)
-      (λ c. vote-new p some (eqb-true _ _ (not-false _ (false-is _ (c .1 .1 .1 .0)))) (new (s .vote .cast) (c .1 .1 .1 .1 .1 .1 .1 .0)))
-    where
-      new : (b : Bool) → T (not (b && isView (s .vote .view) (p .head .view .0))) → T b → s .vote .view .0 ≡ p .head .view .0 → ⊥
-      new true c t = eqb-false (s .vote .view .0) (p .head .view .0) (false-is (isView (s .vote .view) (p .head .view .0)) c)
-      new false c t = absurd t
-
-  -- Decided or not, nothing is said.
-  acknowledge-keeps : (a : Assent) → Keeps (acknowledgeStep s a)
-  unfolding acknowledgeStep acknowledged
-  acknowledge-keeps a =
-      by-answer Keeps s _ _ tt (λ number. i)
-      (λ c. by-cond Keeps (decides (rowed s a) a) _ _ (vote-held _ refl (le-refl _)) (vote-held _ refl (le-refl _)))
-
-  -- A Q is said, or nothing.
-  cast-keeps : (r : Row) → Keeps (castStep s r)
-  unfolding castStep collected
-  cast-keeps r = by-answer Keeps s _ _ tt (λ number. i) (λ c. choice (selectionOf (filledBy s r)))
-    where
-      choice : (x : Choice) → Keeps (chooses (filledBy s r) x)
-      choice Choice.Wait = vote-held _ refl (le-refl _)
-      choice Choice.Free = vote-beside _ _ refl (le-refl _) tt
-      choice (Choice.Forced e) = vote-beside _ _ refl (le-refl _) tt
-
-  -- A C is said.
-  ask-keeps : (q : Request) (rows : List Row) → Keeps (askStep s q rows)
-  unfolding askStep
-  ask-keeps q rows = by-answer Keeps s _ _ tt (λ number. i) (λ c. vote-beside _ _ refl (le-refl _) tt)
-
-  -- A P is said, or nothing.
-  confirm-keeps : (a : Assent) → Keeps (confirmStep s a)
-  unfolding confirmStep confirmed
-  confirm-keeps a =
-      by-answer Keeps s _ _ tt (λ number. i)
-      (λ c. by-cond Keeps (leb (signers (s .f)) (count (bit (confirmedBy s a .confirmed)) (s .n))) _ _
-      (vote-beside _ _ refl (le-refl _) tt)
-      (vote-held _ refl (le-refl _)))
-
-  -- Whichever event it is.
-  step-keeps : 1 ≤ s .view .0 → (message : Message) (rows : List Row) → Keeps (step s message rows)
-  step-keeps some Start rows = start-keeps
-  step-keeps some (Enter v) rows = enter-keeps v
-  step-keeps some (Propose p) rows = propose-keeps some p
-  step-keeps some (Acknowledge a) rows = acknowledge-keeps a
-  step-keeps some (Cast r) rows = cast-keeps r
-  step-keeps some (Ask q) rows = ask-keeps q rows
-  step-keeps some (Confirm a) rows = confirm-keeps a
-
--- Of a seat: what it sent goes on being told by the vote that it holds.
-pub voting-step : (n f k : ℕ) (m : Member) → Seated n f k (m .replica) → Voting k (m .replica) (allSaid (m .sent))
-    → (message : Message) (rows : List Row)
-    → Voting k (after m (step (m .replica) message rows) .replica) (allSaid (after m (step (m .replica) message rows) .sent))
-voting-step n f k m seated i = step-keeps k (m .replica) (m .sent) i (seated .in-view)
+  pub voting-step : (message : Message) (rows : List Row)
+      → Voting k (step (m .replica) message rows .next) (allSaid (after m (step (m .replica) message rows) .sent))
+  voting-step message rows = voting-outcome (outcome s rows message)

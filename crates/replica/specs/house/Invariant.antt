@@ -29,7 +29,7 @@ use Rattle.replica.specs.declared.Step.{Step}
 use Rattle.replica.specs.house.Claims.{Statement, proposes, acknowledges, votes, asks, confirms, Claim, said}
 use Rattle.replica.specs.house.Runs.{Member, sending, reporting, after, Members, placed, Among, allSaid, sentBy, Said, Correct}
 use Rattle.replica.specs.house.Kept.{Kept}
-use Rattle.replica.specs.house.Histories.{among-behind, among-either, viewOf, historyOf}
+use Rattle.replica.specs.house.Histories.{among-behind, Each, each-or, viewOf, historyOf}
 
 -- ---- a seat goes on: its view does not fall, it withdraws nothing, and it acknowledges nothing in a view that it has left
 pub record Grows (a b : Option Member) : Type 0 where
@@ -181,28 +181,25 @@ module _ (n f : ℕ) (faulty : ℕ → Bool) where
   pub record Fair (h : Members) (s : Replica) (t : Step) : Type 0 where
     pub up : s .view .0 ≤ t .next .view .0
     pub rows : RowsSaid h (t .next .acks)
-    pub says : (c : Claim) → Among c (toldBy (t .sent)) → Timely s (c .1) × Backed h (c .1)
-    pub reports : (e : Entry) → Among e (reporting (t .decided)) → Quorum h e
+    pub says : Each (λ c. Timely s (c .1) × Backed h (c .1)) (toldBy (t .sent))
+    pub reports : Each (Quorum h) (reporting (t .decided))
 
   module _ (h : Members) (m : Member) (t : Step) (fair : Fair h (m .replica) t) where
-    -- What is said after it is new or old.
-    said-after : (c : Claim) → Among c (allSaid (after m t .sent)) → Among c (toldBy (t .sent)) ⊎ Among c (allSaid (m .sent))
-    said-after c a = among-either c (toldBy (t .sent)) (allSaid (m .sent)) (subst (Among c) (sent-said (t .next) (t .sent) (m .sent)) a)
+    -- What is said after it is new, so timely and safe, or old.
+    said-after : (c : Claim) → Among c (allSaid (after m t .sent)) → (Timely (m .replica) (c .1) × Backed h (c .1)) ⊎ Among c (allSaid (m .sent))
+    said-after c a = each-or _ c (toldBy (t .sent)) (allSaid (m .sent)) (fair .says) (subst (Among c) (sent-said (t .next) (t .sent) (m .sent)) a)
 
     pub fair-grows : Grows (some m) (some (after m t))
     fair-grows = record {
       up = fair .up;
       keep = λ c a. subst (Among c) (sym (sent-said (t .next) (t .sent) (m .sent))) (among-behind c (toldBy (t .sent)) (allSaid (m .sent)) a);
-      old = λ k w e l a. elim (said-after (k, acknowledges w e) a) [
-        | inl b ↦ absurd (omega (arith, fair .says (k, acknowledges w e) b .0))
-        | inr b ↦ b
-      ];
+      old = λ k w e l a. elim (said-after (k, acknowledges w e) a) [ inl b ↦ absurd (omega (arith, b .0)) | inr b ↦ b ];
     }
 
     pub fair-fine : (k : ℕ) → Fine h k m → Kept n f k (after m t) → Fine h k (after m t)
     fair-fine k x i = record {
       kept = i;
       rows = fair .rows;
-      backed = λ c a. elim (said-after c a) [ inl b ↦ fair .says c b .1 | inr b ↦ x .backed c b ];
-      decided = λ e a. elim (among-either e (reporting (t .decided)) (m .reports) a) [ inl b ↦ fair .reports e b | inr b ↦ x .decided e b ];
+      backed = λ c a. elim (said-after c a) [ inl b ↦ b .1 | inr b ↦ x .backed c b ];
+      decided = λ e a. elim (each-or (Quorum h) e (reporting (t .decided)) (m .reports) (fair .reports) a) [ inl b ↦ b | inr b ↦ x .decided e b ];
     }

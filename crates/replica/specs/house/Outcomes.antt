@@ -1,0 +1,167 @@
+-- What a step comes to: a refusal, or one of the ten ways in which an event is taken; and what a taken event was not refused for.
+use Prim.Native.Nat.{ℕ, _<_}
+use mathlib.Core.Path.{_≡_, refl, ap, subst}
+use mathlib.Core.Bool.{Bool, true, false, not, _&&_, cond}
+use mathlib.Core.List.{List, [], _++_}
+use mathlib.Core.Logic.{_⊎_, inl, inr}
+use lib.Dec.{T, T-not, eqb, leb}
+use mir.Facts.{T-not-not, leb-no, eqb-yes, eqb-no, yes-eqb}
+use borrow.Author.Tests.{eqb-true}
+use Rattle.base.specs.Refusal.{Refusals, first}
+use Rattle.base.specs.RefusalLaws.{Clear, clear, clear-behind, none-both, under, unless}
+use Rattle.base.specs.Tests.{and-i}
+use Rattle.entry.specs.declared.Entry.{Entry}
+use Rattle.seats.specs.declared.View.{View}
+use Rattle.seats.specs.Seats.{leader, count}
+use Rattle.seats.specs.Mask.{bit}
+use Rattle.seats.specs.Certificate.{signers, goodCertificate}
+use Rattle.acks.specs.Acks.{rowOf}
+use Rattle.votes.specs.declared.Row.{Row}
+use Rattle.votes.specs.declared.Choice.{Choice}
+use Rattle.votes.specs.Request.{rowRefusals}
+use Rattle.messages.specs.declared.Message.{Message}
+use Rattle.messages.specs.declared.Message.the-variants.{Start, Enter, Propose, Acknowledge, Cast, Ask, Confirm}
+use Rattle.messages.specs.declared.Assent.{Assent}
+use Rattle.messages.specs.declared.Proposal.{Proposal}
+use Rattle.messages.specs.declared.Request.{Request}
+use Rattle.replica.specs.declared.Replica.{Replica}
+use Rattle.replica.specs.declared.Step.{Step}
+use Rattle.replica.specs.Ordered.{Rises}
+use Rattle.replica.specs.Refusals.{collecting, asking, proposed, isView, startRefusals, enterRefusals, proposeRefusals}
+use Rattle.replica.specs.Refusals.{acknowledgeRefusals, castRefusals, askRefusals, confirmRefusals}
+use Rattle.replica.specs.Replica.{standing, ownRefusals, numberFor, withStage, withVote}
+use Rattle.replica.specs.Steps.{refused, answered, quiet, saying, assentOf, proposalOf, entered, ballot, voteFor, rowed, decides, decidedBy}
+use Rattle.replica.specs.Steps.{filledBy, asks, chooses, selectionOf, confirming, confirmedBy, confirmers, acknowledged, collected, confirmed}
+use Rattle.replica.specs.Steps.{voted, startStep, enterStep, proposeStep, acknowledgeStep, castStep, askStep, confirmStep, step}
+
+-- ---- refused or taken
+
+-- What holds of every refusal, and of the taken step where nothing applies, holds of the answer.
+pub by-answer : (P : Step → Type 0) (s : Replica) (rs : Refusals) (t : Step) → Rises s rs → ((number : ℕ) → P (refused number s)) → (Clear rs → P t)
+    → P (answered s rs t)
+unfolding answered numberFor
+by-answer P s rs t up refusal taken = go (eqb (numberFor s rs) 0) refl
+  where
+    go : (b : Bool) → eqb (numberFor s rs) 0 ≡ b → P (cond b t (refused (numberFor s rs) s))
+    go true e = taken (clear-behind (ownRefusals s) rs (clear 0 (ownRefusals s ++ rs) up (eqb-true (numberFor s rs) 0 e)))
+    go false e = refusal (numberFor s rs)
+
+-- An event is taken where setup's list and its own have nothing against it.
+pub clear-taken : (s : Replica) (rs : Refusals) (t : Step) → first (ownRefusals s) ≡ 0 → Clear rs → answered s rs t ≡ t
+unfolding answered numberFor
+clear-taken s rs t own c = ap (λ k. cond (eqb k 0) t (refused k s)) (none-both (ownRefusals s) rs tt own c)
+
+-- ---- the outcomes of a step
+
+-- The list of an event. The rows are a Q's.
+abbrev pub refusalsOf : Replica → Message → List Row → Refusals
+refusalsOf s Start rows = startRefusals (standing s)
+refusalsOf s (Enter v) rows = enterRefusals (standing s) v
+refusalsOf s (Propose p) rows = proposeRefusals (standing s) (s .vote) p
+refusalsOf s (Acknowledge a) rows = acknowledgeRefusals (standing s) (rowOf (s .acks) (a .head .seat .0) .view) a
+refusalsOf s (Cast r) rows = castRefusals (standing s) (voted s (r .seat .0)) r
+refusalsOf s (Ask q) rows = askRefusals (standing s) q ++ rowRefusals (s .n) (s .f) (q .head .view) rows (q .entry)
+refusalsOf s (Confirm c) rows = confirmRefusals (standing s) (s .confirmed) (s .chosen) c
+
+abbrev pub Taken : Replica → Message → List Row → Type 0
+Taken s m rows = Clear (refusalsOf s m rows)
+
+-- "the leader chooses the forced entry, or its own where the choice is free"
+abbrev pub Chosen : Replica → Entry → Type 0
+Chosen s e = ((selectionOf s ≡ Choice.Free) × (s .own ≡ e)) ⊎ (selectionOf s ≡ Choice.Forced e)
+
+-- "At f + 1 or more senders the leader sends P with their mask; stage proposed."
+abbrev pub enough : Replica → Bool
+enough s = leb (signers (s .f)) (count (bit (s .confirmed)) (s .n))
+
+abbrev pub proposing : Replica → Step
+proposing s = saying (withStage s proposed) (proposalOf s (s .view) (s .chosen) (confirmers s))
+
+-- S starts, E enters, P is accepted, A is noted or decides, V fills a row or lets the leader ask, Q is confirmed, C is added or lets it propose.
+pub data Outcome (s : Replica) (rows : List Row) : Message → Step → Type 0 where
+  refuse : {m : Message} (number : ℕ) → Outcome s rows m (refused number s)
+  start : Taken s Start rows → Outcome s rows Start (saying (withStage s proposed) (proposalOf s (s .view) (s .own) 0))
+  enter : (v : View) → Taken s (Enter v) rows → Outcome s rows (Enter v) (saying (entered s v) (ballot s v))
+  accept : (p : Proposal) → Taken s (Propose p) rows
+      → Outcome s rows (Propose p) (saying (withVote s (voteFor p)) (Acknowledge (assentOf s (p .head .view) (p .entry))))
+  note : (a : Assent) → Taken s (Acknowledge a) rows → Outcome s rows (Acknowledge a) (quiet (rowed s a))
+  decide : (a : Assent) → Taken s (Acknowledge a) rows → T (decides (rowed s a) a)
+      → Outcome s rows (Acknowledge a) (decidedBy (rowed s a) (a .entry))
+  fill : (r : Row) → Taken s (Cast r) rows → Outcome s rows (Cast r) (quiet (filledBy s r))
+  ask : (r : Row) (e : Entry) → Taken s (Cast r) rows → Chosen (filledBy s r) e → Outcome s rows (Cast r) (asks (filledBy s r) e)
+  confirm : (q : Request) → Taken s (Ask q) rows → Outcome s rows (Ask q) (confirming s q)
+  add : (c : Assent) → Taken s (Confirm c) rows → Outcome s rows (Confirm c) (quiet (confirmedBy s c))
+  propose : (c : Assent) → Taken s (Confirm c) rows → T (enough (confirmedBy s c)) → Outcome s rows (Confirm c) (proposing (confirmedBy s c))
+
+-- A test goes one way or the other.
+by-test : (P : Step → Type 0) (b : Bool) (t u : Step) → (T b → P t) → P u → P (cond b t u)
+by-test P true t u h k = h tt
+by-test P false t u h k = k
+
+-- Every step is one of them: a claim is shown of all steps by showing it of each.
+module _ (s : Replica) (rows : List Row) where
+  pub outcome : (m : Message) → Outcome s rows m (step s m rows)
+  unfolding startStep enterStep proposeStep acknowledgeStep acknowledged castStep collected askStep confirmStep confirmed
+  outcome Start = by-answer (Outcome s rows _) s _ _ tt refuse start
+  outcome (Enter v) = by-answer (Outcome s rows _) s _ _ tt refuse (enter v)
+  outcome (Propose p) = by-answer (Outcome s rows _) s _ _ tt refuse (accept p)
+  outcome (Acknowledge a) =
+      by-answer (Outcome s rows _) s _ _ tt refuse (λ c. by-test (Outcome s rows _) (decides (rowed s a) a) _ _ (decide a c) (note a c))
+  outcome (Cast r) = by-answer (Outcome s rows _) s _ _ tt refuse (λ c. go c (selectionOf (filledBy s r)) refl)
+    where
+      go : Taken s (Cast r) rows → (x : Choice) → selectionOf (filledBy s r) ≡ x → Outcome s rows (Cast r) (chooses (filledBy s r) x)
+      go c Choice.Wait q = fill r c
+      go c Choice.Free q = ask r (s .own) c (inl (q, refl))
+      go c (Choice.Forced e) q = ask r e c (inr q)
+  outcome (Ask q) = by-answer (Outcome s rows _) s _ _ tt refuse (confirm q)
+  outcome (Confirm a) =
+      by-answer (Outcome s rows _) s _ _ tt refuse (λ c. by-test (Outcome s rows _) (enough (confirmedBy s a)) _ _ (propose a c) (add a c))
+
+-- ---- what a taken event was not refused for
+
+-- A test whose failure is refused passed.
+equal : {a b : ℕ} → T (not (not (eqb a b))) → a ≡ b
+equal {a} {b} t = eqb-yes (T-not-not (eqb a b) t)
+
+module _ (s : Replica) where
+  -- Past refusal k.
+  past : (k : ℕ) (m : Message) → Taken s m [] → T (not (under k (refusalsOf s m [])))
+  past k m = unless k (refusalsOf s m [])
+
+  -- S: the leader has not proposed.
+  pub start-new : Taken s Start [] → s .stage .0 ≡ proposed → ⊥
+  start-new c = eqb-no (past 12 Start c)
+
+  -- E is of a later view.
+  pub enter-later : (v : View) → Taken s (Enter v) [] → s .view .0 < v .0
+  enter-later v c = leb-no (past 8 (Enter v) c)
+
+  -- P is of the current view, its certificate is good, and the vote held is of another view.
+  pub proposal-here : (p : Proposal) → Taken s (Propose p) [] → p .head .view .0 ≡ s .view .0
+  proposal-here p c = equal (past 8 (Propose p) c)
+
+  pub proposal-good : (p : Proposal) → Taken s (Propose p) [] → T (goodCertificate (s .n) (s .f) (p .head .view) (p .mask))
+  proposal-good p c = T-not-not (goodCertificate (s .n) (s .f) (p .head .view) (p .mask)) (past 11 (Propose p) c)
+
+  pub proposal-new : (p : Proposal) → Taken s (Propose p) [] → T (s .vote .cast) → s .vote .view .0 ≡ p .head .view .0 → ⊥
+  proposal-new p c t e =
+      let same = isView (s .vote .view) (p .head .view .0) in
+      T-not (s .vote .cast && same) (past 12 (Propose p) c) (and-i (s .vote .cast) same t (yes-eqb e))
+
+  -- A is of a seat of the house, under its mark.
+  pub assent-within : (a : Assent) → Taken s (Acknowledge a) [] → a .head .seat .0 < s .n
+  assent-within a c = leb-no (past 6 (Acknowledge a) c)
+
+  pub assent-marked : (a : Assent) → Taken s (Acknowledge a) [] → T (a .head .verified)
+  assent-marked a c = T-not-not (a .head .verified) (past 7 (Acknowledge a) c)
+
+  -- V comes to the leader of the current view, which collects.
+  pub cast-led : (r : Row) → Taken s (Cast r) [] → leader (s .view .0) (s .n) ≡ s .seat .0
+  cast-led r c = subst (λ v. leader v (s .n) ≡ s .seat .0) (equal (past 8 (Cast r) c)) (equal (past 9 (Cast r) c))
+
+  pub cast-collecting : (r : Row) → Taken s (Cast r) [] → s .stage .0 ≡ collecting
+  cast-collecting r c = equal (past 13 (Cast r) c)
+
+  -- C comes to a leader that asks.
+  pub confirm-asking : (a : Assent) → Taken s (Confirm a) [] → s .stage .0 ≡ asking
+  confirm-asking a c = equal (past 13 (Confirm a) c)
