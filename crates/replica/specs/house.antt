@@ -1,11 +1,12 @@
 pub mod Agreement
-pub mod Backed
 pub mod ClaimLaws
 pub mod Claims
 pub mod Confirmation
 pub mod Delivery
 pub mod EveryRun
 pub mod FairSteps
+pub mod Happenings
+pub mod Held
 pub mod Histories
 pub mod Invariant
 pub mod Kept
@@ -16,6 +17,5 @@ pub mod Proposing
 pub mod Requests
 pub mod Runs
 pub mod Seating
-pub mod Trace
 pub mod Voting
 pub mod Witness

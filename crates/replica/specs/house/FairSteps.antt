@@ -3,7 +3,6 @@ use Prim.Native.Nat.{ℕ, _≤_, _<_}
 use mathlib.Core.Path.{_≡_, refl, sym, subst₂}
 use mathlib.Core.Bool.{Bool, not}
 use mathlib.Core.List.{List, [], _∷_}
-use mathlib.Core.Logic.{inl}
 use native.Mathlib.Nat.{le-refl, le-of-eq, le-of-lt}
 use native.Mathlib.Omega.{arith}
 use lib.Dec.{T, eqb, leb, leb→le}
@@ -31,12 +30,13 @@ use Rattle.replica.specs.declared.Step.{Step}
 use Rattle.replica.specs.Refusals.{askRefusals}
 use Rattle.replica.specs.Replica.{standing}
 use Rattle.replica.specs.Steps.{ackRow, rowed, decides, step}
-use Rattle.replica.specs.house.Claims.{proposes, acknowledges, votes, confirms, Claim, whole, said, signed, inRows}
+use Rattle.replica.specs.house.Claims.{proposes, acknowledges, votes, confirms, whole, said, signed, inRows, claims}
 use Rattle.replica.specs.house.Runs.{Member, Members, Among, allSaid, sentBy, Setting, Covered}
 use Rattle.replica.specs.house.Kept.{Seated}
-use Rattle.replica.specs.house.Outcomes.{refusalsOf, Taken, enter-later, proposal-here, proposal-good, assent-within, assent-marked}
+use Rattle.replica.specs.house.Outcomes.{refusalsOf, Taken, enter-later, head-within, head-marked, head-here, proposal-good}
 use Rattle.replica.specs.house.Outcomes.{Outcome, refuse, start, enter, accept, note, decide, fill, ask, confirm, add, propose, outcome}
-use Rattle.replica.specs.house.Histories.{viewOf, historyOf, told-behind, told-if, bit-told, rows-told}
+use Rattle.replica.specs.house.ClaimLaws.{Each, each-all, each-behind, mark-passes, bit-passes}
+use Rattle.replica.specs.house.Histories.{viewOf, historyOf, Told, rows-told}
 use Rattle.replica.specs.house.Invariant.{Quorum, RowsSaid, Fine, Holds, Fair, by-seat, said-backed, rows-with, rows-quorum}
 use Rattle.replica.specs.house.Proposing.{proposed-once}
 use Rattle.replica.specs.house.Voting.{covers-whole}
@@ -59,33 +59,37 @@ holds-honest n f faulty h holds v = record {
 
 module _ (n f : ℕ) (faulty : ℕ → Bool) (setting : Setting n f faulty) where
   -- What the rules allow of n and f, and that few seats are faulty.
-  sizes : Allowed n f
+  pub setting-sizes : Allowed n f
   unfolding sizeNumber
-  sizes = sizes-taken n f (setting .allowed)
+  setting-sizes = sizes-taken n f (setting .allowed)
 
   pub setting-house : House n f faulty
-  setting-house = record { some = sizes .some; fits = sizes .fits; few = setting .few }
+  setting-house = record { some = setting-sizes .some; fits = setting-sizes .fits; few = setting .few }
 
   module _ (h : Members) (holds : Holds n f faulty h) (k : ℕ) (m : Member) (x : Fine n f faulty h k m) where
     abbrev s : Replica
     s = m .replica
 
+    -- `Covered`, claim by claim.
+    abbrev Hears : Message → List Row → Type 0
+    Hears message rows = Each (Told n f faulty h) (claims n message rows)
+
     seated : Seated n f k s
     seated = x .kept .seated
 
     -- P: the certificate of a later view has a correct signer, and what that seat confirmed is safe.
-    accepted-safe : (p : Proposal) → Covered n f faulty h (Propose p) [] → Taken s (Propose p) []
+    accepted-safe : (p : Proposal) → Hears (Propose p) [] → Taken s (Propose p) []
         → Safe n f faulty (historyOf h) (p .head .view .0) (p .entry)
     accepted-safe p told taken w y some l d =
         let v = p .head .view in
         let good = subst₂ (λ a b. T (goodCertificate a b v (p .mask))) (seated .same-n) (seated .same-f) (proposal-good s p taken) in
-        let c = correct-signer setting-house v (p .mask) (sizes .most) (omega arith) good in
-        let bits = told-behind n f faulty h (said (Propose p)) (signed n v (p .entry) (p .mask)) told in
-        let word = bit-told n f faulty h n v (p .entry) (p .mask) bits (c .0) (c .1) (c .2) (c .1, c .3) in
+        let c = correct-signer setting-house v (p .mask) (setting-sizes .most) (omega arith) good in
+        let bits = each-behind (Told n f faulty h) (said (Propose p)) (signed n v (p .entry) (p .mask)) told in
+        let word = bit-passes (Told n f faulty h) n v (p .entry) (p .mask) bits (c .0) (c .1) (c .2) (c .1, c .3) in
         said-backed n f faulty h holds (c .0, confirms v (p .entry)) word w y some l d
 
     -- Q: what its rows leave open is safe.
-    confirmed-safe : (q : Request) (rows : List Row) → Covered n f faulty h (Ask q) rows → Taken s (Ask q) rows
+    confirmed-safe : (q : Request) (rows : List Row) → Hears (Ask q) rows → Taken s (Ask q) rows
         → Safe n f faulty (historyOf h) (q .head .view .0) (q .entry)
     confirmed-safe q rows told taken =
         let v = q .head .view in
@@ -94,16 +98,18 @@ module _ (n f : ℕ) (faulty : ℕ → Bool) (setting : Setting n f faulty) wher
         let call = none-both (sizeRefusals n f) ((5, eqb (v .0) 0) ∷ []) tt (setting .allowed) (some, tt) in
         let fit = subst₂ (λ a b. Clear (later a b)) (seated .same-n) (seated .same-f)
         (clear-behind (askRefusals (standing s) q) (later (s .n) (s .f)) taken) in
-        let claims = rows-told n f faulty h (omega (arith, sizes .least)) rows (told-behind n f faulty h (said (Ask q)) (inRows n rows) told) in
-        request-safe n f faulty (historyOf h) v (setting .few) (holds-honest n f faulty h holds (v .0)) call rows claims (q .entry) fit
+        let inside = each-behind (Told n f faulty h) (said (Ask q)) (inRows n rows) told in
+        let words = rows-told n f faulty h (omega (arith, setting-sizes .least)) rows inside in
+        request-safe n f faulty (historyOf h) v (setting .few) (holds-honest n f faulty h holds (v .0)) call rows words (q .entry) fit
 
     -- A: the row that is written is its seat's own word,
-    noted-rows : (a : Assent) → Covered n f faulty h (Acknowledge a) [] → Taken s (Acknowledge a) []
+    noted-rows : (a : Assent) → Hears (Acknowledge a) [] → Taken s (Acknowledge a) []
         → RowsSaid n f faulty h (rowed s a .acks)
     noted-rows a told taken =
-        let claim : Claim = (a .head .seat .0, acknowledges (a .head .view) (a .entry)) in
-        let own = told-if n f faulty h (a .head .verified) (claim ∷ []) (assent-marked s a taken) told claim (inl refl) in
-        rows-with n f faulty h (s .acks) (a .head .seat .0) (ackRow a) (omega (arith, assent-within s a taken, seated .same-n, sizes .most))
+        let within = head-within s (Acknowledge a) (a .head) refl taken in
+        let marked = head-marked s (Acknowledge a) (a .head) refl taken in
+        let own = mark-passes (Told n f faulty h) (a .head) (acknowledges (a .head .view) (a .entry)) marked told in
+        rows-with n f faulty h (s .acks) (a .head .seat .0) (ackRow a) (omega (arith, within, seated .same-n, setting-sizes .most))
         (seated .entries) (seated .views) (x .rows) own
 
     -- and n − f rows that share it are a quorum.
@@ -115,13 +121,12 @@ module _ (n f : ℕ) (faulty : ℕ → Bool) (setting : Setting n f faulty) wher
         rows-quorum n f faulty h (rowed s a .acks) (ackRow a) said (subst₂ (λ b c. quorum b c ≤ shared b) (seated .same-n) (seated .same-f) enough)
 
     -- P and Q alone say what must be safe, and A alone writes a row or reports.
-    fair-outcome : {message : Message} {rows : List Row} {t : Step} → Outcome s rows message t → Covered n f faulty h message rows
-        → Fair n f faulty h s t
+    fair-outcome : {message : Message} {rows : List Row} {t : Step} → Outcome s rows message t → Hears message rows → Fair n f faulty h s t
     fair-outcome (refuse number) told = record { up = le-refl _; rows = x .rows; says = tt; reports = tt }
     fair-outcome (start c) told = record { up = le-refl _; rows = x .rows; says = ((tt, tt), tt); reports = tt }
     fair-outcome (enter v c) told = record { up = le-of-lt (enter-later s v c); rows = x .rows; says = ((tt, tt), tt); reports = tt }
     fair-outcome (accept p c) told =
-        let now = le-of-eq (sym (proposal-here s p c)) in
+        let now = le-of-eq (sym (head-here s (Propose p) (p .head) refl c)) in
         record { up = le-refl _; rows = x .rows; says = ((now, accepted-safe p told c), tt); reports = tt }
     fair-outcome (note a c) told = record { up = le-refl _; rows = noted-rows a told c; says = tt; reports = tt }
     fair-outcome (decide a c d) told =
@@ -136,4 +141,4 @@ module _ (n f : ℕ) (faulty : ℕ → Bool) (setting : Setting n f faulty) wher
 
     pub fair : (message : Message) (rows : List Row) → Covered n f faulty h message rows
         → Fair n f faulty h (m .replica) (step (m .replica) message rows)
-    fair message rows = fair-outcome (outcome s rows message)
+    fair message rows told = fair-outcome (outcome s rows message) (each-all (Told n f faulty h) (claims n message rows) told)

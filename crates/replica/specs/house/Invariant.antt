@@ -29,7 +29,8 @@ use Rattle.replica.specs.declared.Step.{Step}
 use Rattle.replica.specs.house.Claims.{Statement, proposes, acknowledges, votes, asks, confirms, Claim, said}
 use Rattle.replica.specs.house.Runs.{Member, sending, reporting, after, Members, placed, Among, allSaid, sentBy, Said, Correct}
 use Rattle.replica.specs.house.Kept.{Kept}
-use Rattle.replica.specs.house.Histories.{among-behind, Each, each-or, viewOf, historyOf}
+use Rattle.replica.specs.house.ClaimLaws.{among-behind, Each, each-or}
+use Rattle.replica.specs.house.Histories.{viewOf, historyOf}
 
 -- ---- a seat goes on: its view does not fall, it withdraws nothing, and it acknowledges nothing in a view that it has left
 pub record Grows (a b : Option Member) : Type 0 where
@@ -39,7 +40,7 @@ pub record Grows (a b : Option Member) : Type 0 where
       → Among (k, acknowledges w e) (allSaid (sentBy b)) → Among (k, acknowledges w e) (allSaid (sentBy a))
 
 -- What holds of the new member, and of every seat as it was, holds of every seat.
-placed-all : (h : Members) (k : ℕ) (m : Member) (P : ℕ → Option Member → Type 0) → P k (some m) → ((j : ℕ) → P j (h j))
+pub placed-all : (h : Members) (k : ℕ) (m : Member) (P : ℕ → Option Member → Type 0) → P k (some m) → ((j : ℕ) → P j (h j))
     → (j : ℕ) → P j (placed h k m j)
 placed-all h k m P a b j = go (eqb j k) refl
   where
@@ -60,6 +61,10 @@ toldBy (Sent.Message m) = said m
 sent-said : (s : Replica) (x : Sent) (xs : List (Message × List Row)) → allSaid (sending s x ++ xs) ≡ toldBy x ++ allSaid xs
 sent-said s Sent.Nothing xs = refl
 sent-said s (Sent.Message m) xs = refl
+
+-- So nothing is taken back.
+pub said-still : (m : Member) (t : Step) (c : Claim) → Among c (allSaid (m .sent)) → Among c (allSaid (after m t .sent))
+said-still m t c a = subst (Among c) (sym (sent-said (t .next) (t .sent) (m .sent))) (among-behind c (toldBy (t .sent)) (allSaid (m .sent)) a)
 
 -- Said in the view of s, an acknowledgement is of no view before.
 abbrev pub Timely : Replica → Statement → Type 0
@@ -192,7 +197,7 @@ module _ (n f : ℕ) (faulty : ℕ → Bool) where
     pub fair-grows : Grows (some m) (some (after m t))
     fair-grows = record {
       up = fair .up;
-      keep = λ c a. subst (Among c) (sym (sent-said (t .next) (t .sent) (m .sent))) (among-behind c (toldBy (t .sent)) (allSaid (m .sent)) a);
+      keep = said-still m t;
       old = λ k w e l a. elim (said-after (k, acknowledges w e) a) [ inl b ↦ absurd (omega (arith, b .0)) | inr b ↦ b ];
     }
 

@@ -11,6 +11,8 @@ use Rattle.base.specs.Refusal.{Refusals, first}
 use Rattle.base.specs.RefusalLaws.{Clear, clear, clear-behind, none-both, under, unless}
 use Rattle.base.specs.Tests.{and-i}
 use Rattle.entry.specs.declared.Entry.{Entry}
+use Rattle.entry.specs.Entry.{same}
+use Rattle.entry.specs.Laws.{same-eq}
 use Rattle.seats.specs.declared.View.{View}
 use Rattle.seats.specs.Seats.{leader, count}
 use Rattle.seats.specs.Mask.{bit}
@@ -19,15 +21,17 @@ use Rattle.acks.specs.Acks.{rowOf}
 use Rattle.votes.specs.declared.Row.{Row}
 use Rattle.votes.specs.declared.Choice.{Choice}
 use Rattle.votes.specs.Request.{rowRefusals}
+use Rattle.messages.specs.declared.Head.{Head}
 use Rattle.messages.specs.declared.Message.{Message}
 use Rattle.messages.specs.declared.Message.the-variants.{Start, Enter, Propose, Acknowledge, Cast, Ask, Confirm}
 use Rattle.messages.specs.declared.Assent.{Assent}
 use Rattle.messages.specs.declared.Proposal.{Proposal}
 use Rattle.messages.specs.declared.Request.{Request}
+use Rattle.messages.specs.Lines.{rowHead}
 use Rattle.replica.specs.declared.Replica.{Replica}
 use Rattle.replica.specs.declared.Step.{Step}
 use Rattle.replica.specs.Ordered.{Rises}
-use Rattle.replica.specs.Refusals.{collecting, asking, proposed, isView, startRefusals, enterRefusals, proposeRefusals}
+use Rattle.replica.specs.Refusals.{collecting, asking, proposed, isView, outside, elsewhere, startRefusals, enterRefusals, proposeRefusals}
 use Rattle.replica.specs.Refusals.{acknowledgeRefusals, castRefusals, askRefusals, confirmRefusals}
 use Rattle.replica.specs.Replica.{standing, ownRefusals, numberFor, withStage, withVote}
 use Rattle.replica.specs.Steps.{refused, answered, quiet, saying, assentOf, proposalOf, entered, ballot, voteFor, rowed, decides, decidedBy}
@@ -128,6 +132,17 @@ module _ (s : Replica) where
   past : (k : ℕ) (m : Message) → Taken s m [] → T (not (under k (refusalsOf s m [])))
   past k m = unless k (refusalsOf s m [])
 
+  -- 6 to 8, where a message's list has these tests of its head: it is of a seat of the house, under its mark, of the current view.
+  module _ (m : Message) (h : Head) where
+    pub head-within : under 6 (refusalsOf s m []) ≡ outside (standing s) (h .seat) → Taken s m [] → h .seat .0 < s .n
+    head-within e c = leb-no (subst (λ b. T (not b)) e (past 6 m c))
+
+    pub head-marked : under 7 (refusalsOf s m []) ≡ not (h .verified) → Taken s m [] → T (h .verified)
+    head-marked e c = T-not-not (h .verified) (subst (λ b. T (not b)) e (past 7 m c))
+
+    pub head-here : under 8 (refusalsOf s m []) ≡ elsewhere (standing s) (h .view) → Taken s m [] → h .view .0 ≡ s .view .0
+    head-here e c = equal (subst (λ b. T (not b)) e (past 8 m c))
+
   -- S: the leader has not proposed.
   pub start-new : Taken s Start [] → s .stage .0 ≡ proposed → ⊥
   start-new c = eqb-no (past 12 Start c)
@@ -136,9 +151,9 @@ module _ (s : Replica) where
   pub enter-later : (v : View) → Taken s (Enter v) [] → s .view .0 < v .0
   enter-later v c = leb-no (past 8 (Enter v) c)
 
-  -- P is of the current view, its certificate is good, and the vote held is of another view.
-  pub proposal-here : (p : Proposal) → Taken s (Propose p) [] → p .head .view .0 ≡ s .view .0
-  proposal-here p c = equal (past 8 (Propose p) c)
+  -- P: its sender leads its view, its certificate is good, and the vote held is of another view.
+  pub proposal-led : (p : Proposal) → Taken s (Propose p) [] → leader (p .head .view .0) (s .n) ≡ p .head .seat .0
+  proposal-led p c = equal (past 9 (Propose p) c)
 
   pub proposal-good : (p : Proposal) → Taken s (Propose p) [] → T (goodCertificate (s .n) (s .f) (p .head .view) (p .mask))
   proposal-good p c = T-not-not (goodCertificate (s .n) (s .f) (p .head .view) (p .mask)) (past 11 (Propose p) c)
@@ -148,20 +163,16 @@ module _ (s : Replica) where
       let same = isView (s .vote .view) (p .head .view .0) in
       T-not (s .vote .cast && same) (past 12 (Propose p) c) (and-i (s .vote .cast) same t (yes-eqb e))
 
-  -- A is of a seat of the house, under its mark.
-  pub assent-within : (a : Assent) → Taken s (Acknowledge a) [] → a .head .seat .0 < s .n
-  assent-within a c = leb-no (past 6 (Acknowledge a) c)
-
-  pub assent-marked : (a : Assent) → Taken s (Acknowledge a) [] → T (a .head .verified)
-  assent-marked a c = T-not-not (a .head .verified) (past 7 (Acknowledge a) c)
-
   -- V comes to the leader of the current view, which collects.
   pub cast-led : (r : Row) → Taken s (Cast r) [] → leader (s .view .0) (s .n) ≡ s .seat .0
-  cast-led r c = subst (λ v. leader v (s .n) ≡ s .seat .0) (equal (past 8 (Cast r) c)) (equal (past 9 (Cast r) c))
+  cast-led r c = subst (λ v. leader v (s .n) ≡ s .seat .0) (head-here (Cast r) (rowHead r) refl c) (equal (past 9 (Cast r) c))
 
   pub cast-collecting : (r : Row) → Taken s (Cast r) [] → s .stage .0 ≡ collecting
   cast-collecting r c = equal (past 13 (Cast r) c)
 
-  -- C comes to a leader that asks.
+  -- C comes to a leader that asks, and is for the entry chosen.
   pub confirm-asking : (a : Assent) → Taken s (Confirm a) [] → s .stage .0 ≡ asking
   confirm-asking a c = equal (past 13 (Confirm a) c)
+
+  pub confirm-chosen : (a : Assent) → Taken s (Confirm a) [] → a .entry ≡ s .chosen
+  confirm-chosen a c = same-eq (a .entry) (s .chosen) (T-not-not (same (a .entry) (s .chosen)) (past 18 (Confirm a) c))

@@ -23,7 +23,7 @@ use Rattle.replica.specs.Replica.{ownRefusals}
 use Rattle.replica.specs.Steps.{filledBy, requestFor, selectionOf, requestRows, askStep, step}
 use Rattle.replica.specs.house.Outcomes.{clear-taken, Taken, Chosen, cast-led, cast-collecting}
 use Rattle.replica.specs.house.Outcomes.{Outcome, refuse, start, enter, accept, note, decide, fill, ask, confirm, add, propose, outcome}
-use Rattle.replica.specs.house.Histories.{Each, each-or}
+use Rattle.replica.specs.house.ClaimLaws.{Each, each-or}
 use Rattle.replica.specs.house.Kept.{Seated, Leading, Confirmed, Asked}
 use Rattle.replica.specs.house.Runs.{Member, allSaid, sending, after}
 

@@ -16,15 +16,16 @@ use Rattle.votes.specs.declared.Row.{Row}
 use Rattle.votes.specs.Rows.{zeroVote}
 use Rattle.votes.specs.History.{Covers}
 use Rattle.messages.specs.declared.Message.{Message}
+use Rattle.messages.specs.declared.Message.the-variants.{Propose}
 use Rattle.messages.specs.declared.Proposal.{Proposal}
 use Rattle.replica.specs.declared.Replica.{Replica}
 use Rattle.replica.specs.declared.Step.{Step}
 use Rattle.replica.specs.Replica.{fresh, withVote}
 use Rattle.replica.specs.Steps.{voteFor, step}
-use Rattle.replica.specs.house.Outcomes.{enter-later, proposal-here, proposal-new}
+use Rattle.replica.specs.house.Outcomes.{enter-later, head-here, proposal-new}
 use Rattle.replica.specs.house.Outcomes.{Outcome, refuse, start, enter, accept, note, decide, fill, ask, confirm, add, propose, outcome}
 use Rattle.replica.specs.house.Claims.{Statement, proposes, acknowledges, votes, asks, confirms, Claim, whole}
-use Rattle.replica.specs.house.Histories.{Each, each-or}
+use Rattle.replica.specs.house.ClaimLaws.{Each, each-or}
 use Rattle.replica.specs.house.Kept.{Seated, Voting}
 use Rattle.replica.specs.house.Runs.{Member, after, Among, allSaid}
 
@@ -114,7 +115,7 @@ module _ (n f k : ℕ) (m : Member) (seated : Seated n f k (m .replica)) (i : Vo
   voting-outcome (refuse number) = i
   voting-outcome (start c) = vote-held _ (_ ∷ []) refl (le-refl _) (tt, tt)
   voting-outcome (enter v c) = vote-held _ (_ ∷ []) refl (le-of-lt (enter-later s v c)) ((le-refl _, whole-covers (s .vote)), tt)
-  voting-outcome (accept p c) = vote-new p (proposal-here s p c) (proposal-new s p c)
+  voting-outcome (accept p c) = vote-new p (head-here s (Propose p) (p .head) refl c) (proposal-new s p c)
   voting-outcome (note a c) = vote-held _ [] refl (le-refl _) tt
   voting-outcome (decide a c d) = vote-held _ [] refl (le-refl _) tt
   voting-outcome (fill r c) = vote-held _ [] refl (le-refl _) tt

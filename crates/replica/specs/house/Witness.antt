@@ -31,7 +31,7 @@ use Rattle.replica.specs.Steps.{answered, setupStep, startStep, enterSte
 use Rattle.replica.specs.Steps.{selectionOf, castStep, askStep, confirmed, confirmStep}
 use Rattle.replica.specs.house.Claims.{acknowledges, confirms}
 use Rattle.replica.specs.house.Runs.{Members, Among, sentBy, Said, Reported, Setting, Correct, Run}
-use Rattle.replica.specs.house.Trace.{Happening, begin, hand, house, isRun}
+use Rattle.replica.specs.house.Happenings.{Happening, begin, hand, house, isRun}
 
 -- ---- what is handed over: seat, view and the rest as on a line, all with mark `+`
 abbrev pub by : ℕ → ℕ → Head
