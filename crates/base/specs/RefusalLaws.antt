@@ -87,10 +87,6 @@ clear-none [] c = refl
 clear-none (r ∷ rs) c = ap (λ b. cond b (r .0) (first rs)) (false-is (r .1) (c .0)) ∙ clear-none rs (c .1)
 
 -- Two lists together.
-pub clear-front : (rs ss : Refusals) → Clear (rs ++ ss) → Clear rs
-clear-front [] ss c = tt
-clear-front (r ∷ rs) ss c = (c .0, clear-front rs ss (c .1))
-
 pub clear-behind : (rs ss : Refusals) → Clear (rs ++ ss) → Clear ss
 clear-behind [] ss c = c
 clear-behind (r ∷ rs) ss c = clear-behind rs ss (c .1)

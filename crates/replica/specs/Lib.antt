@@ -6,5 +6,6 @@ pub mod Ordered
 pub mod Refusals
 pub mod Replica
 pub mod Steps
+pub mod TidyLaws
 pub mod Unique
 pub mod house

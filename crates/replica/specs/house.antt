@@ -14,6 +14,7 @@ pub mod KeptSteps
 pub mod Outcomes
 pub mod ProposesOnce
 pub mod Proposing
+pub mod ReportsOnce
 pub mod Requests
 pub mod Runs
 pub mod Seating

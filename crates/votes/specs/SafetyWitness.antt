@@ -56,8 +56,8 @@ module _ (bad : ℕ → Bool) (h : History) (k v : ℕ) where
   for-one e said led = record { said = λ m l. said; led = λ c m p. led; signed = λ c j l m o. absurd (subst T (bit-zero j) m) }
 
 -- ---- one entry at the highest view: seat 3 is faulty
-abbrev pub third : ℕ → Bool
-third k = eqb k 3
+abbrev pub seatThree : ℕ → Bool
+seatThree k = eqb k 3
 
 -- Seat 1 proposed a in view 1 and is still there; seat 0 acknowledged it; seats 0 and 2 went on to view 2 and sent a1 and nil.
 abbrev pub plain : History
@@ -72,7 +72,7 @@ plain = record {
 abbrev pub plain-votes : List (ℕ × Vote)
 plain-votes = (0, a1) ∷ (2, nil) ∷ (3, nil) ∷ []
 
-pub plain-honest : Honest 4 1 third plain 2
+pub plain-honest : Honest 4 1 seatThree plain 2
 plain-honest = record {
   tells = λ k l o v x t. elim (t .1) [
     | inl p ↦ (subst (λ j. v ≤ plain .view j) (sym (p .0)) (omega (arith, t .0)), λ w e m h. told a 1 0 x w e (p .1) (h .1) (h .2))
@@ -82,15 +82,15 @@ plain-honest = record {
   sound = λ k l o u x m c. absurd c;
 }
 
-pub plain-claims : Claims 4 third plain (collected 2 plain-votes)
+pub plain-claims : Claims 4 seatThree plain (collected 2 plain-votes)
 plain-claims = (
-  for-one third plain 0 2 a (λ o. (refl, inl (refl, refl))) (λ o. (refl, refl, refl)),
-  (for-nil third plain 2 2 (λ o. (refl, inr (refl, refl))), (for-nil third plain 3 2 (λ o. absurd o), tt)),
+  for-one seatThree plain 0 2 a (λ o. (refl, inl (refl, refl))) (λ o. (refl, refl, refl)),
+  (for-nil seatThree plain 2 2 (λ o. (refl, inr (refl, refl))), (for-nil seatThree plain 3 2 (λ o. absurd o), tt)),
 )
 
 -- ---- two entries at the highest view: seat 1, the leader of view 1, is faulty and proposed a and b
-abbrev pub first : ℕ → Bool
-first k = eqb k 1
+abbrev pub seatOne : ℕ → Bool
+seatOne k = eqb k 1
 
 -- Seats 0 and 2 acknowledged a and seat 3 b, and all went on to view 2.
 abbrev got : ℕ → Entry
@@ -108,26 +108,26 @@ split = record {
 abbrev pub split-votes : List (ℕ × Vote)
 split-votes = (0, a1) ∷ (2, a1) ∷ (3, b1) ∷ []
 
-pub split-honest : Honest 4 1 first split 2
+pub split-honest : Honest 4 1 seatOne split 2
 split-honest = record {
   tells = λ k l o u x t. (omega (arith, t .0), λ w e m h. told (got k) 1 0 x w e (t .1) (h .0) (h .1));
-  once = λ k l o u x y p q. absurd (subst (λ j. T (not (first j))) (p .0) o);
+  once = λ k l o u x y p q. absurd (subst (λ j. T (not (seatOne j))) (p .0) o);
   sound = λ k l o u x m c. absurd c;
 }
 
-split-claim : (k : ℕ) → Claim 4 first split true k 2 (for (got k) 1 0)
-split-claim k = for-one first split k 2 (got k) (λ o. (refl, refl)) (λ o. absurd o)
+split-claim : (k : ℕ) → Claim 4 seatOne split true k 2 (for (got k) 1 0)
+split-claim k = for-one seatOne split k 2 (got k) (λ o. (refl, refl)) (λ o. absurd o)
 
-pub split-claims : Claims 4 first split (collected 2 split-votes)
+pub split-claims : Claims 4 seatOne split (collected 2 split-votes)
 split-claims = (split-claim 0, (split-claim 2, (split-claim 3, tt)))
 
 -- The same rows in the leader's table.
 abbrev pub split-table : VoteRows
 split-table = withVote (withVote (withVote noVotes 0 a1) 2 a1) 3 b1
 
-pub split-table-claims : TableClaims 4 first split 2 split-table
+pub split-table-claims : TableClaims 4 seatOne split 2 split-table
 unfolding withVote voteAt entryAt withEntry withSeat putSeat bit
-split-table-claims = by-seat (λ k. T (bit (split-table .filled) k) → Claim 4 first split true k 2 (voteAt (split-table .votes) k))
+split-table-claims = by-seat (λ k. T (bit (split-table .filled) k) → Claim 4 seatOne split true k 2 (voteAt (split-table .votes) k))
     (λ t. split-claim 0) (λ t. absurd t) (λ t. split-claim 2) (λ t. split-claim 3)
 
 -- ---- what is selected, and that it is safe
@@ -136,15 +136,15 @@ pub selections : (answer 2 plain-votes ≡ Selected.Chosen (Choice.Forced a)) ×
 unfolding selected selection atTop afterTwo rowsFor twoAt topView smallest sound valid goodCertificate mostFaulty count highest wellFormed same less chosen hasRow withVote voteAt entryAt withEntry withSeat putSeat bit
 selections = (refl, refl, refl)
 
-pub few : (count third 4 ≤ 1) × (count first 4 ≤ 1)
+pub few : (count seatThree 4 ≤ 1) × (count seatOne 4 ≤ 1)
 unfolding count
 few = (lit≤ tt, lit≤ tt)
 
-pub plain-safe : Safe 4 1 third plain 2 a
-plain-safe = selected-safe 4 1 third plain (inView 2) (few .0) plain-honest (collected 2 plain-votes) plain-claims (Choice.Forced a) (selections .0) a refl
+pub plain-safe : Safe 4 1 seatThree plain 2 a
+plain-safe = selected-safe 4 1 seatThree plain (inView 2) (few .0) plain-honest (collected 2 plain-votes) plain-claims (Choice.Forced a) (selections .0) a refl
 
-pub split-safe : Safe 4 1 first split 2 a
-split-safe = selected-safe 4 1 first split (inView 2) (few .1) split-honest (collected 2 split-votes) split-claims (Choice.Forced a) (selections .1) a refl
+pub split-safe : Safe 4 1 seatOne split 2 a
+split-safe = selected-safe 4 1 seatOne split (inView 2) (few .1) split-honest (collected 2 split-votes) split-claims (Choice.Forced a) (selections .1) a refl
 
-pub split-table-safe : Safe 4 1 first split 2 a
-split-table-safe = chosen-safe 4 1 first split (inView 2) (few .1) split-honest split-table split-table-claims (Choice.Forced a) (selections .2) a refl
+pub split-table-safe : Safe 4 1 seatOne split 2 a
+split-table-safe = chosen-safe 4 1 seatOne split (inView 2) (few .1) split-honest split-table split-table-claims (Choice.Forced a) (selections .2) a refl

@@ -22,7 +22,7 @@ use Rattle.votes.specs.History.{History, Covers, Safe, Honest}
 use Rattle.votes.specs.Claims.{Claim, Claims}
 use Rattle.votes.specs.Answers.{selected-safe}
 use Rattle.votes.specs.Examples.{a, b, for, nil, a1, b1, collected}
-use Rattle.votes.specs.SafetyWitness.{inView, answer, by-seat, told, for-nil, for-one, first, few}
+use Rattle.votes.specs.SafetyWitness.{inView, answer, by-seat, told, for-nil, for-one, seatOne, few}
 
 -- A vote of view 2 that seats 0 and 2 signed.
 abbrev pub b2 : Vote
@@ -64,9 +64,9 @@ abbrev pub votes-3 : List (ℕ × Vote)
 votes-3 = (0, a1) ∷ (2, b1) ∷ (3, b2) ∷ []
 
 -- All that was confirmed before v is b in view 2.
-pub honest : (v : ℕ) → (2 < v → Safe 4 1 first run 2 b) → Honest 4 1 first run v
+pub honest : (v : ℕ) → (2 < v → Safe 4 1 seatOne run 2 b) → Honest 4 1 seatOne run v
 honest v earlier = record {
-  tells = by-seat (λ k. T (not (first k)) → (u : ℕ) (x : Vote) → votes k u x → (u ≤ 3) × ((w : ℕ) (e : Entry) → w < u → acks k w e → Covers x w e))
+  tells = by-seat (λ k. T (not (seatOne k)) → (u : ℕ) (x : Vote) → votes k u x → (u ≤ 3) × ((w : ℕ) (e : Entry) → w < u → acks k w e → Covers x w e))
       (λ o u x t. (t .1, λ w e m h. told a 1 0 x w e (t .2) (h .0) (h .1)))
       (λ o. absurd o)
       (λ o u x t. (t .1, λ w e m h. told b 1 0 x w e (t .2) (h .0) (h .1)))
@@ -74,30 +74,30 @@ honest v earlier = record {
         | inl p ↦ (omega (arith, p .0), λ w e m h. absurd (omega (arith, p .0, h .0)))
         | inr p ↦ (omega (arith, p .0), λ w e m h. told b 2 0x5 x w e (p .1) (h .0) (h .1))
       ]);
-  once = by-seat (λ k. T (not (first k)) → (u : ℕ) (x y : Entry) → proposals k u x → proposals k u y → x ≡ y)
+  once = by-seat (λ k. T (not (seatOne k)) → (u : ℕ) (x y : Entry) → proposals k u x → proposals k u y → x ≡ y)
       (λ o u x y p. absurd p) (λ o. absurd o) (λ o u x y p q. p .1 ∙ sym (q .1)) (λ o u x y p. absurd p);
-  sound = λ k l o u x m c. subst₂ (Safe 4 1 first run) (sym (c .1)) (sym (c .2)) (earlier (omega (arith, c .1)));
+  sound = λ k l o u x m c. subst₂ (Safe 4 1 seatOne run) (sym (c .1)) (sym (c .2)) (earlier (omega (arith, c .1)));
 }
 
 module _ (v : ℕ) (low : 2 ≤ v) (high : v ≤ 3) where
-  zero-claim : Claim 4 first run true 0 v a1
-  zero-claim = for-one first run 0 v a (λ o. (low, high, refl)) (λ o. absurd o)
+  zero-claim : Claim 4 seatOne run true 0 v a1
+  zero-claim = for-one seatOne run 0 v a (λ o. (low, high, refl)) (λ o. absurd o)
 
-  two-claim : Claim 4 first run true 2 v b1
-  two-claim = for-one first run 2 v b (λ o. (low, high, refl)) (λ o. absurd o)
+  two-claim : Claim 4 seatOne run true 2 v b1
+  two-claim = for-one seatOne run 2 v b (λ o. (low, high, refl)) (λ o. absurd o)
 
-pub claims-2 : Claims 4 first run (collected 2 votes-2)
-claims-2 = (zero-claim 2 (lit≤ tt) (lit≤ tt), (two-claim 2 (lit≤ tt) (lit≤ tt), (for-nil first run 3 2 (λ o. inl (refl, refl)), tt)))
+pub claims-2 : Claims 4 seatOne run (collected 2 votes-2)
+claims-2 = (zero-claim 2 (lit≤ tt) (lit≤ tt), (two-claim 2 (lit≤ tt) (lit≤ tt), (for-nil seatOne run 3 2 (λ o. inl (refl, refl)), tt)))
 
-pub claims-3 : Claims 4 first run (collected 3 votes-3)
+pub claims-3 : Claims 4 seatOne run (collected 3 votes-3)
 unfolding bit
 claims-3 = (zero-claim 3 (lit≤ tt) (lit≤ tt), (two-claim 3 (lit≤ tt) (lit≤ tt), (signed-claim, tt)))
   where
-    signed-claim : Claim 4 first run true 3 3 b2
+    signed-claim : Claim 4 seatOne run true 3 3 b2
     signed-claim = record {
       said = λ m l o. inr (refl, refl);
       led = λ c m p o. (refl, refl);
-      signed = λ c. by-seat (λ j. T (bit 0x5 j) → T (not (first j)) → run .confirmed j 2 b)
+      signed = λ c. by-seat (λ j. T (bit 0x5 j) → T (not (seatOne j)) → run .confirmed j 2 b)
           (λ m o. (inl refl, refl, refl)) (λ m. absurd m) (λ m o. (inr refl, refl, refl)) (λ m. absurd m);
     }
 
@@ -107,8 +107,8 @@ unfolding selected selection atTop afterTwo rowsFor twoAt topView smallest sound
 selections = (refl, refl)
 
 -- What seats 0 and 2 confirmed in view 2 was open there: the induction hypothesis for view 3.
-pub safe-2 : Safe 4 1 first run 2 b
-safe-2 = selected-safe 4 1 first run (inView 2) (few .1) (honest 2 (λ l. absurd (omega arith))) (collected 2 votes-2) claims-2 Choice.Free (selections .0) b tt
+pub safe-2 : Safe 4 1 seatOne run 2 b
+safe-2 = selected-safe 4 1 seatOne run (inView 2) (few .1) (honest 2 (λ l. absurd (omega arith))) (collected 2 votes-2) claims-2 Choice.Free (selections .0) b tt
 
-pub safe-3 : Safe 4 1 first run 3 b
-safe-3 = selected-safe 4 1 first run (inView 3) (few .1) (honest 3 (λ l. safe-2)) (collected 3 votes-3) claims-3 (Choice.Forced b) (selections .1) b refl
+pub safe-3 : Safe 4 1 seatOne run 3 b
+safe-3 = selected-safe 4 1 seatOne run (inView 3) (few .1) (honest 3 (λ l. safe-2)) (collected 3 votes-3) claims-3 (Choice.Forced b) (selections .1) b refl

@@ -74,7 +74,7 @@ module _ (n f : ℕ) (faulty : ℕ → Bool) (setting : Setting n f faulty) wher
 
 -- Only correct seats begin, so the proof does not ask whether j and k are: the demand does.
 pub agreement : (n f : ℕ) (faulty : ℕ → Bool) → Setting n f faulty → (h : Members) → Run n f faulty h
-    → (j k : ℕ) → Correct n f faulty j → Correct n f faulty k → (x y : Entry) → Reported h j x → Reported h k y → x ≡ y
+    → (j k : ℕ) → Correct n faulty j → Correct n faulty k → (x y : Entry) → Reported h j x → Reported h k y → x ≡ y
 agreement n f faulty setting h run j k c d x y a b =
     let i = run-holds n f faulty setting run in
     agree n f faulty setting h i x y (reported n f faulty setting h i j x a) (reported n f faulty setting h i k y b)

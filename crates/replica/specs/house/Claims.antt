@@ -9,11 +9,10 @@ use Rattle.seats.specs.Seats.{leader}
 use Rattle.seats.specs.Mask.{bit}
 use Rattle.votes.specs.declared.Vote.{Vote}
 use Rattle.votes.specs.declared.Row.{Row}
-use Rattle.votes.specs.Rows.{zeroVote}
 use Rattle.messages.specs.declared.Head.{Head}
 use Rattle.messages.specs.declared.Message.{Message}
 use Rattle.messages.specs.declared.Message.the-variants.{Start, Enter, Propose, Acknowledge, Cast, Ask, Confirm}
-use Rattle.messages.specs.Lines.{rowHead}
+use Rattle.messages.specs.Lines.{rowHead, tidyVote}
 
 -- What a seat says under its mark, "kind, view and entry; in V, view and the whole vote".
 pub data Statement : Type 0 where
@@ -29,7 +28,7 @@ Claim = ℕ × Statement
 
 -- "the whole vote": nil is nil, whatever stands beside it. "Unused fields do not count."
 abbrev pub whole : Vote → Vote
-whole x = cond (x .cast) x zeroVote
+whole x = tidyVote (x .cast) x
 
 -- ---- the mark of a message: "A message's mark speaks for its sender"
 abbrev pub marked : Head → Statement → List Claim
@@ -66,7 +65,8 @@ abbrev pub inRows : ℕ → List Row → List Claim
 inRows n [] = []
 inRows n (r ∷ rs) = inRow n r ++ inRows n rs
 
--- ---- all of it. The rows are a Q's: beside another message they do not count.
+-- ---- all of it. The rows are a Q's: beside another message they do not count. That the marks of P, Q and C themselves assert something
+-- is not needed for agreement, and stays because the demand has it; without it, what correct seats send would not all be covered.
 abbrev pub claims : ℕ → Message → List Row → List Claim
 claims n Start rows = []
 claims n (Enter v) rows = []

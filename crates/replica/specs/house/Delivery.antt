@@ -71,7 +71,7 @@ module _ (n f : ℕ) (faulty : ℕ → Bool) where
 
 -- The premise of a step shuts out no message as a correct seat sent it.
 pub delivery : (n f : ℕ) (faulty : ℕ → Bool) → Setting n f faulty → (h : Members) → Run n f faulty h → (k : ℕ) (m : Member) → h k ≡ some m
-    → (message : Message) (rows : List Row) → Among (message, rows) (m .sent) → Covered n f faulty h message rows
+    → (message : Message) (rows : List Row) → Among (message, rows) (m .sent) → Covered n faulty h message rows
 delivery n f faulty setting h run k m e message rows a =
     let x = subst (Passing n f faulty h) e (run-passing n f faulty setting run k) in
     λ c. each-in (Told n f faulty h) c (claims n message rows) (each-in _ (message, rows) (m .sent) (x .1) a)

@@ -139,6 +139,6 @@ module _ (n f : ℕ) (faulty : ℕ → Bool) (setting : Setting n f faulty) wher
     fair-outcome (add a c) told = record { up = le-refl _; rows = x .rows; says = tt; reports = tt }
     fair-outcome (propose a c d) told = record { up = le-refl _; rows = x .rows; says = ((tt, tt), tt); reports = tt }
 
-    pub fair : (message : Message) (rows : List Row) → Covered n f faulty h message rows
+    pub fair : (message : Message) (rows : List Row) → Covered n faulty h message rows
         → Fair n f faulty h (m .replica) (step (m .replica) message rows)
     fair message rows told = fair-outcome (outcome s rows message) (each-all (Told n f faulty h) (claims n message rows) told)

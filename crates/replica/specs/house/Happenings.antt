@@ -133,23 +133,23 @@ notBegun none = test true (λ t. refl)
 notBegun (some m) = test false (λ t. absurd t)
 
 module _ (n f : ℕ) (faulty : ℕ → Bool) where
-  abbrev correct : (k : ℕ) → Test (Correct n f faulty k)
+  abbrev correct : (k : ℕ) → Test (Correct n faulty k)
   correct k = both (test (ltb k n) (ltb→lt k n)) (holds (not (faulty k)))
 
   -- A claim of a seat that is not faulty must be one that it made itself.
-  abbrev backed : (h : Members) (c : Claim) → Test (Correct n f faulty (c .0) → Said h c)
+  abbrev backed : (h : Members) (c : Claim) → Test (Correct n faulty (c .0) → Said h c)
   backed h c =
       so (λ p right. elim p [ inl t ↦ absurd (T-not (faulty (c .0)) (right .1) t) | inr s ↦ s ])
       (either (holds (faulty (c .0))) (among c (allSaid (sentBy (h (c .0))))))
 
-  abbrev covered : (h : Members) (cs : List Claim) → Test ((c : Claim) → Among c cs → Correct n f faulty (c .0) → Said h c)
+  abbrev covered : (h : Members) (cs : List Claim) → Test ((c : Claim) → Among c cs → Correct n faulty (c .0) → Said h c)
   covered h [] = test true (λ t c m. absurd m)
   covered h (d ∷ cs) =
-      so (λ p c m. elim m [ inl e ↦ subst (λ x. Correct n f faulty (x .0) → Said h x) (sym e) (p .0) | inr l ↦ p .1 c l ])
+      so (λ p c m. elim m [ inl e ↦ subst (λ x. Correct n faulty (x .0) → Said h x) (sym e) (p .0) | inr l ↦ p .1 c l ])
       (both (backed h d) (covered h cs))
 
   -- Whether the seat has begun or not.
-  pub hand-run : (h : Members) (k : ℕ) (message : Message) (rows : List Row) → Correct n f faulty k → Covered n f faulty h message rows
+  pub hand-run : (h : Members) (k : ℕ) (message : Message) (rows : List Row) → Correct n faulty k → Covered n faulty h message rows
       → Run n f faulty h → Run n f faulty (handed h k (h k) message rows)
   hand-run h k message rows right cover r = go (h k) refl
     where

@@ -33,7 +33,7 @@ historyOf h = record {
 module _ (n f : ℕ) (faulty : ℕ → Bool) (h : Members) where
   -- What is claimed of a correct seat was said. `Covered` is this, of each of an event's claims.
   abbrev pub Told : Claim → Type 0
-  Told c = Correct n f faulty (c .0) → Said h c
+  Told c = Correct n faulty (c .0) → Said h c
 
   module _ (some-seat : 0 < n) where
     -- A V, by its own mark, the mark inside its vote, and that vote's mask bits.

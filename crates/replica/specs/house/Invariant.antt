@@ -80,7 +80,7 @@ module _ (n f : ℕ) (faulty : ℕ → Bool) where
     pub view : View
     pub seats : ℕ → Bool
     pub many : quorum n f ≤ count seats n
-    pub acked : (k : ℕ) → Correct n f faulty k → T (seats k) → Said h (k, acknowledges view e)
+    pub acked : (k : ℕ) → Correct n faulty k → T (seats k) → Said h (k, acknowledges view e)
 
   -- An entry that is acknowledged or confirmed is safe.
   abbrev pub Backed : Members → Statement → Type 0
@@ -92,7 +92,7 @@ module _ (n f : ℕ) (faulty : ℕ → Bool) where
 
   -- A filled acknowledgement row of a correct seat is that seat's word.
   abbrev pub RowsSaid : Members → Acks → Type 0
-  RowsSaid h t = (j : ℕ) → Correct n f faulty j → T (isFilled (rowOf t j)) → Said h (j, acknowledges (rowOf t j .view) (rowOf t j .entry))
+  RowsSaid h t = (j : ℕ) → Correct n faulty j → T (isFilled (rowOf t j)) → Said h (j, acknowledges (rowOf t j .view) (rowOf t j .entry))
 
   -- ---- the invariant: of one member, of a seat, of all seats
   pub record Fine (h : Members) (k : ℕ) (m : Member) : Type 0 where
@@ -161,11 +161,11 @@ module _ (n f : ℕ) (faulty : ℕ → Bool) where
   module _ (h : Members) where
     -- The row written is its seat's own word.
     pub rows-with : (t : Acks) (k : ℕ) (r : AckRow) → k < 64 → length (t .entries) ≡ tableWords → length (t .views) ≡ tableSeats
-        → RowsSaid h t → (Correct n f faulty k → Said h (k, acknowledges (r .view) (r .entry))) → RowsSaid h (withRow t k r)
+        → RowsSaid h t → (Correct n faulty k → Said h (k, acknowledges (r .view) (r .entry))) → RowsSaid h (withRow t k r)
     rows-with t k r l e v i own j o = elim (ℕ-discrete j k) [
       | yes q ↦ λ b.
           let same = subst (λ j. rowOf (withRow t k r) j ≡ r) (sym q) (row-same t k r l e v) in
-          subst₂ (λ j z. Said h (j, acknowledges (z .view) (z .entry))) (sym q) (sym same) (own (subst (Correct n f faulty) q o))
+          subst₂ (λ j z. Said h (j, acknowledges (z .view) (z .entry))) (sym q) (sym same) (own (subst (Correct n faulty) q o))
       | no q ↦ subst (λ z. T (isFilled z) → Said h (j, acknowledges (z .view) (z .entry))) (sym (row-other t j k r q)) (i j o)
     ]
 

@@ -10,5 +10,5 @@ use Rattle.replica.specs.house.Runs.{Member, Members, allSaid, Setting, 
 
 -- Among all that a correct seat sent there is at most one P of a view, be it for one entry or for two.
 pub proposes-once : (n f : ℕ) (faulty : ℕ → Bool) → Setting n f faulty → (h : Members) → Run n f faulty h
-    → (k : ℕ) → Correct n f faulty k → (m : Member) → h k ≡ some m → (v : View) → proposalsIn (v .0) (allSaid (m .sent)) ≤ 1
+    → (k : ℕ) → Correct n faulty k → (m : Member) → h k ≡ some m → (v : View) → proposalsIn (v .0) (allSaid (m .sent)) ≤ 1
 proposes-once n f faulty setting h run k correct m at v = run-kept n f faulty setting run k m at .leading .one (v .0)

@@ -98,21 +98,22 @@ pub record Setting (n f : ℕ) (faulty : ℕ → Bool) : Type 0 where
   pub allowed : first (sizeRefusals n f) ≡ 0
   pub few : count faulty n ≤ f
 
-module _ (n f : ℕ) (faulty : ℕ → Bool) where
+module _ (n : ℕ) (faulty : ℕ → Bool) where
   abbrev pub Correct : ℕ → Type 0
   Correct k = (k < n) × T (not (faulty k))
 
-  -- "Let a verified mark or mask bit for a correct seat appear only for a statement that this seat sent."
+  -- "Let a verified mark or mask bit for a correct seat appear only for a statement that this seat sent": before this step.
   abbrev pub Covered : Members → Message → List Row → Type 0
   Covered h m rows = (c : Claim) → Among c (claims n m rows) → Correct (c .0) → Said h c
 
-  -- "in every order of steps". A step hands any event to any seat that has begun. So a message may be lost, as no step need hand it
-  -- over; repeated or late, as it may be handed over again and at any time; altered or made up, as far as marks allow; and a view
-  -- changes whenever an E is handed over.
+module _ (n f : ℕ) (faulty : ℕ → Bool) where
+  -- "in every order of steps". A step hands any event that is covered to any correct seat that has begun. So a message may be lost, as no
+  -- step need hand it over; repeated or late, as it may be handed over again and at any time; altered or made up, as far as marks allow;
+  -- and a view changes whenever an E is handed over, at will.
   pub data Run : Members → Type 0 where
     nobody : Run (λ k. none)
     -- "every correct seat start fresh, once, with the same n and f and its own number"
-    begins : {h : Members} → Run h → (k : ℕ) → Correct k → h k ≡ none → (own : Entry) → T (wellFormed own)
+    begins : {h : Members} → Run h → (k : ℕ) → Correct n faulty k → h k ≡ none → (own : Entry) → T (wellFormed own)
         → Run (placed h k (begun (setupStep n f (record { 0 = k }) own)))
-    takes : {h : Members} → Run h → (k : ℕ) → Correct k → (m : Member) → h k ≡ some m → (message : Message) (rows : List Row)
-        → Covered h message rows → Run (placed h k (after m (step (m .replica) message rows)))
+    takes : {h : Members} → Run h → (k : ℕ) → Correct n faulty k → (m : Member) → h k ≡ some m → (message : Message) (rows : List Row)
+        → Covered n faulty h message rows → Run (placed h k (after m (step (m .replica) message rows)))

@@ -1,7 +1,7 @@
 -- Every step keeps `Voting` of Kept.antt: the vote held goes on telling of all that was acknowledged.
 use Prim.Native.Nat.{ℕ, _≤_, _<_}
 use mathlib.Core.Path.{_≡_, refl, sym, ap, _∙_, subst}
-use mathlib.Core.Bool.{Bool, true, false, cond}
+use mathlib.Core.Bool.{Bool, true, false}
 use mathlib.Core.List.{List, [], _∷_, _++_}
 use mathlib.Core.Logic.{_⊎_, inl, inr}
 use native.Mathlib.Nat.{le-refl, le-of-lt}
@@ -13,9 +13,9 @@ use Rattle.seats.specs.declared.Seat.{Seat}
 use Rattle.seats.specs.declared.View.{View}
 use Rattle.votes.specs.declared.Vote.{Vote}
 use Rattle.votes.specs.declared.Row.{Row}
-use Rattle.votes.specs.Rows.{zeroVote}
 use Rattle.votes.specs.History.{Covers}
 use Rattle.messages.specs.declared.Message.{Message}
+use Rattle.messages.specs.Lines.{tidyVote}
 use Rattle.messages.specs.declared.Message.the-variants.{Propose}
 use Rattle.messages.specs.declared.Proposal.{Proposal}
 use Rattle.replica.specs.declared.Replica.{Replica}
@@ -35,13 +35,13 @@ use Rattle.replica.specs.house.Runs.{Member, after, Among, allSaid}
 pub covers-whole : (x : Vote) (w : ℕ) (e : Entry) → Covers (whole x) w e → Covers x w e
 covers-whole x w e = go (x .cast)
   where
-    go : (b : Bool) → Covers (cond b x zeroVote) w e → Covers x w e
+    go : (b : Bool) → Covers (tidyVote b x) w e → Covers x w e
     go true c = c
     go false c = absurd (c .cast)
 
 -- A vote that tells of something is not nil.
 whole-covers : (x : Vote) (w : ℕ) (e : Entry) → Covers x w e → Covers (whole x) w e
-whole-covers x w e c = subst (λ y. Covers y w e) (sym (ap (λ b. cond b x zeroVote) (true-is (x .cast) (c .cast)))) c
+whole-covers x w e c = subst (λ y. Covers y w e) (sym (ap (λ b. tidyVote b x) (true-is (x .cast) (c .cast)))) c
 
 -- ---- setup: a fresh replica has said nothing and holds nil
 pub voting-begun : (k n f : ℕ) (seat : Seat) (own : Entry) → Voting k (fresh n f seat own) []
