@@ -34,7 +34,7 @@ use Rattle.messages.specs.declared.Message.the-variants.{Start, Enter, Propose,
 use Rattle.replica.specs.declared.Replica.{Replica}
 use Rattle.replica.specs.declared.Answer.{Answer}
 use Rattle.replica.specs.declared.Step.{Step}
-use Rattle.replica.specs.Steps.{answerOf, setupStep, step, requestRows}
+use Rattle.replica.specs.Steps.{stepOf, answerOf, setupStep, step, requestRows}
 use Rattle.replica.specs.AskLaws.{gathered-asked}
 use Rattle.replica.proofs.Replica.setup as setup
 use Rattle.replica.proofs.Replica.start as start
@@ -54,6 +54,15 @@ use Rattle.replica.proofs.Replica.cast_step as cast-step
 use Rattle.replica.proofs.Replica.ask_step as ask-step
 use Rattle.replica.proofs.Replica.confirm_step as confirm-step
 
+-- An answer as a run reads it: without the margin.
+abbrev pub read : Answer → Step
+read r = stepOf (r .reply .number) (r .next) (r .reply .decided) (r .reply .sent)
+
+-- An answer that meets the contract of its method is read as the step of the run.
+pub read-step : (s : Replica) (m : Message) (rows : List Row) (r : Answer) → r ≡ answerOf (step s m rows) → read r ≡ step s m rows
+read-step s m rows r e = ap read e
+
+-- ---- the contracts
 module _ {M : Type 1} (𝓤 : URA M) (H : Heap 𝓤) (A : Atoms 𝓤) (mem : Memory → SProp 𝓤) (run : Routine → Fun 𝓤) where
   abbrev 𝓛 : Connectives 𝓤
   𝓛 = connectives 𝓤

@@ -65,8 +65,8 @@ abbrev pub inRows : ℕ → List Row → List Claim
 inRows n [] = []
 inRows n (r ∷ rs) = inRow n r ++ inRows n rs
 
--- ---- all of it. The rows are a Q's: beside another message they do not count. That the marks of P, Q and C themselves assert something
--- is not needed for agreement, and stays because the demand has it; without it, what correct seats send would not all be covered.
+-- ---- all of it. The rows are a Q's: beside another message they do not count. Agreement does not need what the marks of P, C and Q
+-- themselves assert, and `delivery` only those of P and C: they stay because the demand has them.
 abbrev pub claims : ℕ → Message → List Row → List Claim
 claims n Start rows = []
 claims n (Enter v) rows = []
