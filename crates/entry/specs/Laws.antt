@@ -10,7 +10,7 @@ use lib.ListN.{length, take, drop, replicate, length-take, length-drop, take-app
 use borrow.Author.Tests.{eqb-true, eq-eqb, ltb-true, lt-ltb, le-ltb}
 use Rattle.base.specs.Tests.{and-l, and-r, and-i, and-true, and-alone, is-true, true-is, same-test}
 use Rattle.entry.specs.declared.Entry.{Entry}
-use Rattle.entry.specs.Entry.{all, wordBytes, bytesOf, serialOf, serial, wellFormed, same, less, ofWords, entryOf}
+use Rattle.entry.specs.Entry.{all, wordBytes, bytesOf, serialLength, serialOf, codeOf, serial, wellFormed, same, less, ofWords, entryOf}
 use Rattle.entry.specs.Flags.{last-step}
 use Rattle.entry.specs.Words.{below, equal-word, below-word, word-back, isByte, all-join, word-below, word-made}
 
@@ -100,6 +100,10 @@ bytes-sixteen e = refl
 
 pub bytes-below : (e : Entry) → e .hi < 2 ^ 64 → e .lo < 2 ^ 64 → T (all isByte (bytesOf e))
 bytes-below e h l = all-join (wordBytes (e .hi)) (wordBytes (e .lo)) (word-below (e .hi) h) (word-below (e .lo) l)
+
+-- The serial, then the code.
+pub serial-and-code : (e : Entry) → serialOf e ++ codeOf e ≡ bytesOf e
+serial-and-code e = take-append-drop serialLength (bytesOf e)
 
 -- "any bytes": the code has no part in whether an entry is well formed.
 pub any-code : (a b : Entry) → serialOf a ≡ serialOf b → wellFormed a ≡ wellFormed b

@@ -2,6 +2,7 @@ pub mod AskLaws
 pub mod Choices
 pub mod Examples
 pub mod MarginLaws
+pub mod Numbers
 pub mod Ordered
 pub mod Refusals
 pub mod Replica

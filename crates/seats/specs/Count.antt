@@ -6,10 +6,10 @@ use Prim.Native.Nat.{ℕ, zero, suc, _+_, _≤_, _<_}
 use native.Mathlib.Omega.{arith}
 use native.Mathlib.Numerals.{add-one}
 use native.Mathlib.Decide.{ℕ-discrete}
-use lib.Dec.{T, eqb, eqb-refl, ltb}
+use lib.Dec.{T, eqb, eqb-refl, ltb, ltb→lt, lt→ltb}
 use Rattle.base.specs.Choosing.{larger, larger-bounds}
 use Rattle.base.specs.Tests.{and-l, and-r, and-i}
-use Rattle.seats.specs.Seats.{b2n, count, highest}
+use Rattle.seats.specs.Seats.{b2n, count, someSeat, highest}
 
 b2n-le : (a : Bool) → b2n a ≤ 1
 b2n-le true = omega arith
@@ -49,6 +49,13 @@ count-some p (suc n) h = go (p n) refl (λ l. count-some p n l)
         let z : b2n (p n) ≡ 0 = ap b2n e in
         let r = rec (omega arith) in
         (r .0, omega arith, r .2)
+
+-- Some seat passes just when there is one that does.
+pub some-seat : (p : ℕ → Bool) (n k : ℕ) → k < n → T (p k) → T (someSeat p n)
+some-seat p n k h t = lt→ltb 0 (count p n) (count-pos p n k h t)
+
+pub seat-that : (p : ℕ → Bool) (n : ℕ) → T (someSeat p n) → (k : ℕ) × (k < n) × T (p k)
+seat-that p n t = count-some p n (ltb→lt 0 (count p n) t)
 
 cover1 : (a b c : Bool) → (T a → T (b || c)) → b2n a ≤ b2n b + b2n c
 cover1 false b c h = omega arith

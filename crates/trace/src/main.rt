@@ -4,6 +4,7 @@ ghost use Prim.Native.Nat.{_≤_};
 ghost use mathlib.Core.Path.{_≡_};
 ghost use lib.ListN.{length};
 ghost use Rattle.trace.specs.Inside.{Inside};
+use libc::STDERR_FILENO;
 use libc::STDIN_FILENO;
 use libc::STDOUT_FILENO;
 use transcript::State;
@@ -39,12 +40,20 @@ fn kept_if(keep: bool, n: usize) -> usize
     if keep { n } else { 0 }
 }
 
+// What failed goes to standard error: a program in Rattle has no status to say it with.
+fn complain_if(failed: bool, what: &[u8]) {
+    if failed {
+        io::write_all(STDERR_FILENO, what);
+    }
+}
+
 // One read behind what is there. The end stays where it is when the input is over, or cannot be read.
 fn read_more(buf: &mut [u8], end: usize) -> usize
     ensures { λ r. ⌜ r ≤ length (now (buf .exit)) ⌝ }
 {
     let from = least(end, buf.len());
     let got = libc::read(STDIN_FILENO, &mut buf[from..]);
+    complain_if(got < 0, b"trace: standard input cannot be read\n");
     from + io::count(got, &buf[from..])
 }
 
@@ -114,7 +123,9 @@ fn read_first(buf: &mut [u8]) -> Window
 // False when it cannot be written.
 fn write_front(out: &[u8], put: usize) -> bool {
     let n = least(put, out.len());
-    io::write_all(STDOUT_FILENO, &out[..n])
+    let written = io::write_all(STDOUT_FILENO, &out[..n]);
+    complain_if(!written, b"trace: standard output cannot be written\n");
+    written
 }
 
 fn feed_window(state: State, buf: &[u8], w: Window, out: &mut [u8]) -> Fed

@@ -155,6 +155,3 @@ ask-small e s q rows = event-sendable e s q rows .rows
 -- The same of 01's own step.
 pub step-writable : (s : Replica) (h : Happening) → SentWritable (stepFor s h .sent)
 step-writable s h = happening-sendable s h .line
-
-pub step-ask-small : (s : Replica) (h : Happening) → sendsAsk (stepFor s h .sent) ≡ true → stepFor s h .next .n ≤ 64
-step-ask-small s h = happening-sendable s h .rows

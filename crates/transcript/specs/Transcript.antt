@@ -9,7 +9,9 @@ use Rattle.text.specs.Fields.{lineEnd}
 use Rattle.messages.specs.declared.setup.Setup.{Setup}
 use Rattle.messages.specs.declared.setup.Opening.{Opening}
 use Rattle.messages.specs.declared.setup.Opening.the-variants.{Read, Malformed}
-use Rattle.messages.specs.Setup.{readSetup}
+use Rattle.messages.specs.declared.read.Line.{Line}
+use Rattle.messages.specs.Lines.{lineNumber}
+use Rattle.messages.specs.Setup.{readSetup, openingNumber}
 use Rattle.replica.specs.declared.Replica.{Replica}
 use Rattle.replica.specs.declared.Step.{Step}
 use Rattle.replica.specs.Replica.{marginOf}
@@ -20,7 +22,7 @@ use Rattle.transcript.specs.Printed.{told, printed}
 
 -- "Any other malformed line .. is an event with 19."
 abbrev pub stepFor : Replica → Happening → Step
-stepFor s none = refused 19 s
+stepFor s none = refused (lineNumber Line.Malformed) s
 stepFor s (some x) = step s (x .0) (x .1)
 
 -- Event after event, the first of them number k.
@@ -46,11 +48,11 @@ begun t ls = cond (eqb (t .number) 0) (toldOf (t .next) 1 (happenings 0 ls)) (ba
 
 -- "the number is 19 for a malformed or missing H, else setup's"
 abbrev pub opened : Opening → List (List ℕ) → List ℕ
-opened Malformed ls = badSetup 19
+opened Malformed ls = badSetup (openingNumber Malformed)
 opened (Read h) ls = begun (setupOf h) ls
 
 abbrev pub output : List (List ℕ) → List ℕ
-output [] = badSetup 19
+output [] = badSetup (openingNumber Malformed)
 output (l ∷ ls) = opened (readSetup l) ls
 
 unfoldable pub transcript : List ℕ → List ℕ

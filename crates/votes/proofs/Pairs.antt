@@ -5,13 +5,13 @@ use mathlib.Core.Logic.{inl, inr}
 use mathlib.Core.Path.{_≡_, sym, ap, _∙_, subst}
 use native.Mathlib.Omega.{arith}
 use native.Mathlib.Decide.{ℕ-discrete, decLt}
-use lib.Dec.{T, T-not, not-T, ltb→lt, lt→ltb}
+use lib.Dec.{T, T-not, not-T}
 use Rattle.base.specs.Tests.{and-l, and-r, and-i, T-dec, is-true, true-is, false-is, true≢false}
 use Rattle.entry.specs.declared.Entry.{Entry}
 use Rattle.entry.specs.Entry.{same}
 use Rattle.entry.specs.Laws.{same-eq, same-refl}
-use Rattle.seats.specs.Seats.{count, someSeat}
-use Rattle.seats.specs.Count.{count-pos, count-some}
+use Rattle.seats.specs.Seats.{someSeat}
+use Rattle.seats.specs.Count.{some-seat, seat-that}
 
 module _ (n : ℕ) (p : ℕ → Bool) (e : ℕ → Entry) where
   abbrev pub differ : ℕ → ℕ → Bool
@@ -22,8 +22,8 @@ module _ (n : ℕ) (p : ℕ → Bool) (e : ℕ → Entry) where
 
   pub two-yes : (i j : ℕ) → i < n → j < n → T (p i) → T (p j) → T (not (same (e i) (e j))) → true ≡ two
   two-yes i j hi hj pi pj d =
-      let one = lt→ltb 0 (count (differ i) n) (count-pos (differ i) n j hj (and-i (p i && p j) _ (and-i (p i) (p j) pi pj) d)) in
-      sym (true-is two (lt→ltb 0 (count (λ j. someSeat (differ j) n) n) (count-pos (λ j. someSeat (differ j) n) n i hi one)))
+      let one = some-seat (differ i) n j hj (and-i (p i && p j) _ (and-i (p i) (p j) pi pj) d) in
+      sym (true-is two (some-seat (λ j. someSeat (differ j) n) n i hi one))
 
   -- Where the answer is that no two differ, none do.
   pub two-alike : T (not two) → (i j : ℕ) → i < n → j < n → T (p i) → T (p j) → e i ≡ e j
@@ -34,8 +34,8 @@ module _ (n : ℕ) (p : ℕ → Bool) (e : ℕ → Entry) where
 
   pub two-no : ((i j : ℕ) → i < n → j < n → T (p i) → T (p j) → e i ≡ e j) → false ≡ two
   two-no h = sym (false-is two (not-T two (λ t.
-      let j = count-some (λ j. someSeat (differ j) n) n (ltb→lt 0 _ t) in
-      let k = count-some (differ (j .0)) n (ltb→lt 0 _ (j .2)) in
+      let j = seat-that (λ j. someSeat (differ j) n) n t in
+      let k = seat-that (differ (j .0)) n (j .2) in
       let both = and-l (p (j .0) && p (k .0)) (not (same (e (j .0)) (e (k .0)))) (k .2) in
       T-not (same (e (j .0)) (e (k .0))) (and-r (p (j .0) && p (k .0)) (not (same (e (j .0)) (e (k .0)))) (k .2))
       (subst (λ x. T (same (e (j .0)) x)) (h (j .0) (k .0) (j .1) (k .1) (and-l (p (j .0)) (p (k .0)) both) (and-r (p (j .0)) (p (k .0)) both)) (same-refl (e (j .0)))))))

@@ -6,14 +6,14 @@ use mathlib.Core.Logic.{inl, inr}
 use mathlib.Core.Option.{Option, none, some}
 use native.Mathlib.Omega.{arith}
 use native.Mathlib.Decide.{ℕ-discrete, decLt}
-use lib.Dec.{T, T-not, not-T, eqb, eqb→eq, eqb-refl, leb, leb→le, ltb, ltb→lt, lt→ltb, nltb→le, nleb→lt}
+use lib.Dec.{T, T-not, not-T, eqb, eqb→eq, eqb-refl, leb, leb→le, ltb, nltb→le, nleb→lt}
 use Rattle.base.specs.Tests.{and-l, and-r, and-i, T-dec}
 use Rattle.entry.specs.declared.Entry.{Entry}
 use Rattle.entry.specs.Entry.{same}
 use Rattle.entry.specs.Laws.{same-eq, same-refl}
 use Rattle.seats.specs.Seats.{count, someSeat}
 use Rattle.seats.specs.Sizes.{quorum}
-use Rattle.seats.specs.Count.{count-pos, count-some, highest-le, le-highest}
+use Rattle.seats.specs.Count.{count-pos, count-some, some-seat, seat-that, highest-le, le-highest}
 use Rattle.votes.specs.declared.Vote.{Vote}
 use Rattle.votes.specs.declared.Choice.{Choice}
 use Rattle.votes.specs.Selection.{smallest, forcedTo, isCast, topView, isAt, twoAt, isOther, otherAt, rowsFor, afterTwo, atTop, selection, support}
@@ -113,8 +113,8 @@ module _ (n f : ℕ) (has : ℕ → Bool) (vote : ℕ → Vote) where
   two-at : (w : ℕ) → T (twoAt n f has vote w) → Twice n has vote w
   unfolding twoAt
   two-at w t =
-      let a = count-some (λ j. someSeat (apart w j) n) n (ltb→lt 0 _ t) in
-      let b = count-some (apart w (a .0)) n (ltb→lt 0 _ (a .2)) in
+      let a = seat-that (λ j. someSeat (apart w j) n) n t in
+      let b = seat-that (apart w (a .0)) n (a .2) in
       let i = a .0 in
       let j = b .0 in
       let both = and-l (at w i && at w j) _ (b .2) in
@@ -133,8 +133,8 @@ module _ (n f : ℕ) (has : ℕ → Bool) (vote : ℕ → Vote) where
     | inl e ↦ let e′ = same-eq (vote i .entry) (vote j .entry) e in let p = r .is in let q = s .is in cc
     | inr d ↦
         let both = and-i (at w i && at w j) _ (and-i (at w i) (at w j) (at-row w x r) (at-row w y s)) d in
-        let inner = lt→ltb 0 _ (count-pos (apart w i) n j (s .inside) both) in
-        absurd (T-not (twoAt n f has vote w) t (lt→ltb 0 _ (count-pos (λ j. someSeat (apart w j) n) n i (r .inside) inner)))
+        let inner = some-seat (apart w i) n j (s .inside) both in
+        absurd (T-not (twoAt n f has vote w) t (some-seat (λ j. someSeat (apart w j) n) n i (r .inside) inner))
   ]
     where
       i : ℕ

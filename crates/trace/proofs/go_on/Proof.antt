@@ -30,47 +30,37 @@ Inv-loop buf₀ out₀ state₀ w₀ turns₀ buf out state w turns =
 abbrev μ-loop : tie.MeasureT-loop
 μ-loop buf₀ out₀ state₀ w₀ turns₀ buf out state w turns = turns
 
--- src/main.rt:145:5
 loop-holds : tie.Need-loop-holds Inv-loop μ-loop
 loop-holds c = (c .before .before .pre, refl, refl)
 
--- src/main.rt:146:9
 sub-turns : tie.Need-sub-turns Inv-loop μ-loop
 sub-turns c = search needs
 
--- src/main.rt:147:13
 feed-window-requires : tie.Need-feed-window-requires Inv-loop μ-loop
 feed-window-requires c κs = c .before .before .before .loop .inv .0
 
--- src/main.rt:150:9
 behind-requires : tie.Need-behind-requires Inv-loop μ-loop
 behind-requires c κs = c .before .before .before .before .before .before .before .loop .inv .0 .0
 
--- src/main.rt:151:13
 write-front-requires : tie.Need-write-front-requires Inv-loop μ-loop
 write-front-requires c κs = search needs
 
--- src/main.rt:152:13
 same-length : tie.Need-same-length Inv-loop μ-loop
 same-length c = c .before .before .before .before .before .before .before .before .before .before .before .loop .inv .1
 
--- src/main.rt:152:13
 same-length-2 : tie.Need-same-length-2 Inv-loop μ-loop
 same-length-2 c =
     let fed = c .before .before .before .before .before .before .before in
     fed .feed-window .kept .1 .1 .1 .0 ∙ fed .before .before .before .before .loop .inv .2
 
--- src/main.rt:152:13
 returns : tie.Need-returns Inv-loop μ-loop
 returns c = search needs
 
--- src/main.rt:145:5
 loop-less : tie.Need-loop-less Inv-loop μ-loop
 loop-less c =
     let turn = c .before .before .before .before .before .before .before .before .before .before .before .before in
     omega (arith, turn .loop-test .taken)
 
--- src/main.rt:145:5
 loop-again : tie.Need-loop-again Inv-loop μ-loop
 loop-again c =
     let used = c .before .before .before .before .before in
@@ -78,28 +68,23 @@ loop-again c =
     let l = fed .before .before .before .before .loop in
     (ends-alike (l .w) (used .behind .result) (l .buf) (l .inv .0) (used .behind .ensures), l .inv .1, fed .feed-window .kept .1 .1 .1 .0 ∙ l .inv .2)
 
--- src/main.rt:157:13
 refill-requires : tie.Need-refill-requires Inv-loop μ-loop
 refill-requires c κs =
     let used = c .before .before .before .before .before .before in
     let l = used .before .before .before .before .before .before .before .before .loop in
     ends-alike (l .w) (used .behind .result) (l .buf) (l .inv .0) (used .behind .ensures)
 
--- src/main.rt:162:9
 cut-if-requires : tie.Need-cut-if-requires Inv-loop μ-loop
 cut-if-requires c κs = search needs
 
--- src/main.rt:164:9
 kept-if-requires : tie.Need-kept-if-requires Inv-loop μ-loop
 kept-if-requires c κs = search needs
 
--- src/main.rt:145:5
 loop-less-2 : tie.Need-loop-less-2 Inv-loop μ-loop
 loop-less-2 c =
     let turn = c .before .before .before .before .before .before .before .before .before .before .before .before .before .before .before .before .before .before .before in
     omega (arith, c .kept-if .ensures, turn .loop-test .taken)
 
--- src/main.rt:145:5
 loop-again-2 : tie.Need-loop-again-2 Inv-loop μ-loop
 loop-again-2 c =
     let read = c .before .before .before .before .before in
@@ -107,19 +92,15 @@ loop-again-2 c =
     let held = fed .before .before .before .before .loop .inv in
     ((omega arith, read .refill .ensures), read .refill .kept .0 ∙ held .1, fed .feed-window .kept .1 .1 .1 .0 ∙ held .2)
 
--- src/main.rt:166:5
 write-last-requires : tie.Need-write-last-requires Inv-loop μ-loop
 write-last-requires c κs = search needs
 
--- src/main.rt:139:1
 same-length-3 : tie.Need-same-length-3 Inv-loop μ-loop
 same-length-3 c = search needs
 
--- src/main.rt:139:1
 same-length-4 : tie.Need-same-length-4 Inv-loop μ-loop
 same-length-4 c = search needs
 
--- src/main.rt:139:1
 returns-2 : tie.Need-returns-2 Inv-loop μ-loop
 returns-2 c = search needs
 

@@ -12,57 +12,44 @@ use Rattle.trace.proofs.write_front.Reads as write-front-reads
 use Rattle.transcript.proofs.begin.begin.Reads as begin-reads
 use Rattle.transcript.proofs.begin.put_refusal.Reads as put-refusal-reads
 
--- src/main.rt:170:9
 read-first-requires : tie.Need-read-first-requires
 read-first-requires c κs = search needs
 
--- src/main.rt:172:23
 slice-reshare-prefix-begin : tie.Need-slice-reshare-prefix-begin
 slice-reshare-prefix-begin c = search needs
 
--- src/main.rt:172:23
 slice-aggregate-begin : tie.Need-slice-aggregate-begin
 slice-aggregate-begin c =
     let first = c .before .before .before .read-first in
     sym (length-take-le (first .result .at) (first .last .0) (omega (arith, first .ensures .0, first .ensures .1)))
 
--- src/main.rt:172:9
 begin-requires : tie.Need-begin-requires
 begin-requires c κs = search needs
 
--- src/main.rt:174:13
 put-refusal-requires : tie.Need-put-refusal-requires
 put-refusal-requires c κs = search needs
 
--- src/main.rt:175:9
 write-front-requires : tie.Need-write-front-requires
 write-front-requires c κs = search needs
 
--- src/main.rt:176:9
 same-length : tie.Need-same-length
 same-length c = search needs
 
--- src/main.rt:176:9
 same-length-2 : tie.Need-same-length-2
 same-length-2 c = search needs
 
--- src/main.rt:176:9
 returns : tie.Need-returns
 returns c = search needs
 
--- src/main.rt:179:5
 go-on-requires : tie.Need-go-on-requires
 go-on-requires c κs = search needs
 
--- src/main.rt:169:1
 same-length-3 : tie.Need-same-length-3
 same-length-3 c = search needs
 
--- src/main.rt:169:1
 same-length-4 : tie.Need-same-length-4
 same-length-4 c = search needs
 
--- src/main.rt:169:1
 returns-2 : tie.Need-returns-2
 returns-2 c = search needs
 

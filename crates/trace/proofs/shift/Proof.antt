@@ -13,43 +13,33 @@ Inv-loop buf₀ from end i₀ buf i = (from ≤ i) × (from ≤ end) × (end ≤
 abbrev μ-loop : tie.MeasureT-loop
 μ-loop buf₀ from end i₀ buf i = end - i
 
--- src/main.rt:59:5
 loop-holds : tie.Need-loop-holds Inv-loop μ-loop
 loop-holds c = search needs
 
--- src/main.rt:60:25
 slice-read-buf : tie.Need-slice-read-buf Inv-loop μ-loop
 slice-read-buf c = search needs
 
--- src/main.rt:60:13
 sub-buf : tie.Need-sub-buf Inv-loop μ-loop
 sub-buf c = search needs
 
--- src/main.rt:60:9
 slice-write-buf : tie.Need-slice-write-buf Inv-loop μ-loop
 slice-write-buf c = search needs
 
--- src/main.rt:61:9
 add-i : tie.Need-add-i Inv-loop μ-loop
 add-i c = search needs
 
--- src/main.rt:59:5
 loop-less : tie.Need-loop-less Inv-loop μ-loop
 loop-less c = search needs
 
--- src/main.rt:59:5
 loop-again : tie.Need-loop-again Inv-loop μ-loop
 loop-again c = search needs
 
--- src/main.rt:63:5
 sub-result : tie.Need-sub-result Inv-loop μ-loop
 sub-result c = search needs
 
--- src/main.rt:52:1
 same-length : tie.Need-same-length Inv-loop μ-loop
 same-length c = search needs
 
--- src/main.rt:52:1
 returns : tie.Need-returns Inv-loop μ-loop
 returns c = search needs
 
