@@ -4,7 +4,7 @@ use mathlib.Core.Path.{_≡_}
 use mathlib.Core.Bool.{Bool, true, false, cond}
 use mathlib.Core.List.{List, [], _∷_}
 use Rattle.text.specs.Digits.{decimal, hex}
-use Rattle.text.specs.Fields.{lineOf}
+use Rattle.text.specs.Fields.{lineOf, IsLineOf}
 use Rattle.entry.specs.Entry.{zeroEntry}
 use Rattle.entry.specs.Hex.{entryText, IsEntry}
 use Rattle.seats.specs.declared.Seat.{Seat}
@@ -104,6 +104,10 @@ fields (Confirm c) = head (c .head) (entryText (c .entry) ∷ [])
 unfoldable pub line : Message → List ℕ
 line m = lineOf (kind m) (fields m)
 
+-- The texts that are read as the message's line.
+unfoldable pub IsLine : List ℕ → Message → Type 0
+IsLine l m = IsLineOf l (kind m) (fields m)
+
 -- ---- which messages have a line: "seats 0 to 99, views 0 to 4,294,967,295, counts 0 to 64"
 
 abbrev pub topSeat : ℕ
@@ -174,8 +178,8 @@ tidy (Confirm c) = Confirm c
 
 -- ---- what reading a line is: the message that fits and whose line it is, and 19 exactly where there is none
 abbrev pub Reads : List ℕ → Line → Type 0
-Reads l (Read m) = (l ≡ line m) × (Fits m × (tidy m ≡ m))
-Reads l Malformed = (m : Message) → Fits m → l ≡ line m → ⊥
+Reads l (Read m) = IsLine l m × (Fits m × (tidy m ≡ m))
+Reads l Malformed = (m : Message) → Fits m → IsLine l m → ⊥
 
 abbrev pub lineNumber : Line → ℕ
 lineNumber (Read m) = 0

@@ -2,13 +2,14 @@
 use Prim.Native.Nat.{ℕ, _+_, _<_, _≤_}
 use mathlib.Core.Path.{_≡_, refl}
 use mathlib.Core.Bool.{Bool, true, false}
-use mathlib.Core.List.{[]}
+use mathlib.Core.List.{List, [], _++_}
 use native.Mathlib.Omega.{arith}
 use lib.Dec.{lit<, lit≤}
 use lib.ListN.{length}
 use Rattle.text.specs.DecimalLaws.{decimal-short}
 use Rattle.text.specs.Digits.{decimal, hex, hexChar, width}
-use Rattle.text.specs.Fields.{tabbed}
+use Rattle.text.specs.FieldLaws.{line-front, line-size}
+use Rattle.text.specs.Fields.{lineEnd, tabbed, longestEnd}
 use Rattle.entry.specs.Entry.{zeroEntry}
 use Rattle.entry.specs.Hex.{entryText}
 use Rattle.entry.specs.HexLaws.{zero-is-entry}
@@ -18,7 +19,7 @@ use Rattle.messages.specs.declared.Message.{Message}
 use Rattle.messages.specs.declared.Message.the-variants.{Start, Enter, Propose, Acknowledge, Cast, Ask, Confirm}
 use Rattle.messages.specs.Lengths.{number-takes, head-takes, vote-takes, line-takes}
 use Rattle.messages.specs.Lengths.{proposal-takes, assent-takes, row-takes, request-takes}
-use Rattle.messages.specs.Lines.{head, vote, rowHead, fields, line, topSeat, topView}
+use Rattle.messages.specs.Lines.{head, vote, rowHead, kind, fields, line, IsLine, topSeat, topView}
 use Rattle.messages.specs.Lines.{HeadWithin, CastWithin, Fits}
 
 abbrev pub longestLine : ℕ
@@ -52,6 +53,24 @@ fields-short (Confirm c) f = omega (arith, assent-takes c, head-short (c .head) 
 -- No line is longer.
 pub longest : (m : Message) → Fits m → length (line m) ≤ longestLine + 1
 longest m f = omega (arith, line-takes m, fields-short m f)
+
+-- ---- the lines that are read
+
+-- The longest of them, with its end.
+abbrev pub longestRead : ℕ
+longestRead = longestLine + longestEnd
+
+module _ (l : List ℕ) (m : Message) (is : IsLine l m) where
+  -- An LF is its last byte.
+  pub line-ended : (w : List ℕ) × (l ≡ w ++ lineEnd)
+  unfolding IsLine
+  line-ended = line-front l (kind m) (fields m) is
+
+  pub longest-read : Fits m → length l ≤ longestRead
+  unfolding IsLine
+  longest-read f = omega (arith, line-size l (kind m) (fields m) is, fields-short m f)
+
+-- ---- reached
 
 -- This one is as long.
 abbrev pub longestVote : Message

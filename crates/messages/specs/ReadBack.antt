@@ -4,10 +4,10 @@ use mathlib.Core.Path.{_≡_, refl, ap, _∙_}
 use mathlib.Core.Bool.{Bool, true, false}
 use mathlib.Core.List.{List, [], _∷_}
 use lib.Dec.{lit<, lit≤}
-use Rattle.text.specs.Clean.{clean-byte}
+use Rattle.text.specs.FieldEnds.{clean-byte}
 use Rattle.text.specs.Digits.{decimal, hex}
-use Rattle.text.specs.FieldLaws.{Ahead, over-reads, kind-reads}
-use Rattle.text.specs.Fields.{lineOf, endBehind}
+use Rattle.text.specs.FieldLaws.{Ahead, over-reads, kind-reads, line-ahead, line-written}
+use Rattle.text.specs.Fields.{endBehind}
 use Rattle.entry.specs.Hex.{entryText, IsEntry}
 use Rattle.seats.specs.declared.View.{View}
 use Rattle.votes.specs.declared.Vote.{Vote}
@@ -18,7 +18,7 @@ use Rattle.messages.specs.declared.Request.{Request}
 use Rattle.messages.specs.declared.Message.{Message}
 use Rattle.messages.specs.declared.Message.the-variants.{Start, Enter, Propose, Acknowledge, Cast, Ask, Confirm}
 use Rattle.messages.specs.declared.read.Line.the-variants.{Read}
-use Rattle.messages.specs.Lines.{dash, mark, view, head, vote, rowHead, kind, fields, line, tidyVote, tidy}
+use Rattle.messages.specs.Lines.{dash, mark, view, head, vote, rowHead, kind, fields, line, IsLine, tidyVote, tidy}
 use Rattle.messages.specs.Lines.{topSeat, topView, topCount, HeadWithin, CastWithin, Fits, IsMask}
 use Rattle.messages.specs.Reader.{headAt, enterAt, assentAt, proposeAt, askAt}
 use Rattle.messages.specs.Reader.{rowOf, nilAt, voteAt, castAt, messageAt, readLine}
@@ -112,9 +112,13 @@ kind-letter (Cast r) = lit≤ tt
 kind-letter (Ask q) = lit≤ tt
 kind-letter (Confirm c) = lit≤ tt
 
--- The line of a message reads as the message, its unused fields as zero.
+-- A line of a message reads as the message, its unused fields as zero.
+pub line-reads-back : (l : List ℕ) (m : Message) → Fits m → IsLine l m → readLine l ≡ Read (tidy m)
+unfolding readLine IsLine
+line-reads-back l m f h =
+    ap (messageAt l 1) (kind-reads l (kind m) (fields m) (clean-byte (kind m) (kind-letter m)) h)
+    ∙ message-back l 1 m f (line-ahead l (kind m) (fields m) h)
+
 pub written-reads-back : (m : Message) → Fits m → readLine (line m) ≡ Read (tidy m)
-unfolding readLine line
-written-reads-back m f =
-    let l = lineOf (kind m) (fields m) in
-    ap (messageAt l 1) (kind-reads (kind m) (fields m) (clean-byte (kind m) (kind-letter m))) ∙ message-back l 1 m f refl
+unfolding line IsLine
+written-reads-back m f = line-reads-back (line m) m f (line-written (kind m) (fields m))

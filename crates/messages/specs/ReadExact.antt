@@ -17,7 +17,7 @@ use Rattle.messages.specs.declared.Message.{Message}
 use Rattle.messages.specs.declared.Message.the-variants.{Start, Enter, Propose, Acknowledge, Cast, Ask, Confirm}
 use Rattle.messages.specs.declared.read.Line.{Line}
 use Rattle.messages.specs.declared.read.Line.the-variants.{Read, Malformed}
-use Rattle.messages.specs.Lines.{dash, mark, head, kind, fields, line, nilVote, tidy}
+use Rattle.messages.specs.Lines.{dash, mark, head, kind, fields, IsLine, nilVote, tidy}
 use Rattle.messages.specs.Lines.{startKind, enterKind, proposeKind, acknowledgeKind, castKind, askKind, confirmKind}
 use Rattle.messages.specs.Lines.{topSeat, topView, topCount, HeadWithin, Fits}
 use Rattle.messages.specs.Reader.{numberAt, letterAt, entryAt, hexAt, markOf, headAt, got, enterAt, assentAt, proposeAt}
@@ -193,8 +193,8 @@ module _ (t : List ℕ) (e : ℕ) where
       tt))))))
 
 -- What reads as a message is the message's line, and the message has no unused field that is not zero.
-pub read-was-written : (l : List ℕ) (m : Message) → readLine l ≡ Read m → (l ≡ line m) × (Fits m × (tidy m ≡ m))
-unfolding readLine line
+pub read-was-written : (l : List ℕ) (m : Message) → readLine l ≡ Read m → IsLine l m × (Fits m × (tidy m ≡ m))
+unfolding readLine IsLine
 read-was-written l m h =
     let first = letterOf (fieldAt l 0) in
     let w = subst (Says l 1 first) h (message-exact l 1 first) in

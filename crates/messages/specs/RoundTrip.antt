@@ -11,6 +11,7 @@ use lib.Seq.{take-append-seam}
 use borrow.Author.Tests.{leb-true, le-leb, le-ltb}
 use Rattle.base.specs.Tests.{and-true}
 use Rattle.base.specs.Unique.{OneAnswer}
+use Rattle.text.specs.FieldLaws.{line-only}
 use Rattle.entry.specs.HexLaws.{zero-is-entry}
 use Rattle.messages.specs.declared.Head.{Head}
 use Rattle.messages.specs.declared.Message.{Message}
@@ -18,9 +19,9 @@ use Rattle.messages.specs.declared.Message.the-variants.{Start, Enter, P
 use Rattle.messages.specs.declared.read.Line.{Line}
 use Rattle.messages.specs.declared.read.Line.the-variants.{Read, Malformed}
 use Rattle.messages.specs.declared.write.Written.{Written}
-use Rattle.messages.specs.Lines.{rowHead, line, tidy, topSeat, topCount, HeadWithin, Fits, Typed, Reads, lineNumber}
+use Rattle.messages.specs.Lines.{rowHead, kind, fields, line, IsLine, tidy, topSeat, topCount, HeadWithin, Fits, Typed, Reads, lineNumber}
 use Rattle.messages.specs.Longest.{longestLine, longest, longestVote}
-use Rattle.messages.specs.ReadBack.{written-reads-back}
+use Rattle.messages.specs.ReadBack.{line-reads-back, written-reads-back}
 use Rattle.messages.specs.ReadExact.{read-was-written}
 use Rattle.messages.specs.Reader.{readLine}
 use Rattle.messages.specs.Writer.{seated, writable, written, lent, afterwards}
@@ -32,11 +33,11 @@ reads l = go (readLine l) refl
   where
     go : (r : Line) → readLine l ≡ r → Reads l r
     go (Read m) h = read-was-written l m h
-    go Malformed h = λ m f e. let n = ap lineNumber (sym h ∙ ap readLine e ∙ written-reads-back m f) in omega arith
+    go Malformed h = λ m f e. let n = ap lineNumber (sym h ∙ line-reads-back l m f e) in omega arith
 
 -- Every answer that meets the contract is the reader's.
 pub reads-only : (l : List ℕ) (r : Line) → Reads l r → r ≡ readLine l
-reads-only l (Read m) h = ap Read (sym (h .1 .1)) ∙ sym (ap readLine (h .0) ∙ written-reads-back m (h .1 .0))
+reads-only l (Read m) h = ap Read (sym (h .1 .1)) ∙ sym (line-reads-back l m (h .1 .0) (h .0))
 reads-only l Malformed h = go (readLine l) refl
   where
     go : (r : Line) → readLine l ≡ r → Malformed ≡ r
@@ -105,13 +106,18 @@ wrote-reads-back buf m t z =
     ∙ ap readLine (take-append-seam text (drop (length text) buf))
     ∙ written-reads-back m f
 
--- What was read the writer writes.
+-- "the reader takes exactly the lines the writer makes": what was read is the line of the message,
+pub read-written : (l : List ℕ) (m : Message) → readLine l ≡ Read m → l ≡ line m
+unfolding IsLine line
+read-written l m e = line-only l (kind m) (fields m) (read-was-written l m e .0)
+
+-- and the writer writes it.
 pub read-is-written : (buf l : List ℕ) (m : Message) → readLine l ≡ Read m → length l ≤ length buf
     → (written buf m ≡ record { number = 0; length = length l }) × (afterwards buf m ≡ lent buf l)
 read-is-written buf l m e h =
-    let r = read-was-written l m e in
-    let w = writes buf m (r .1 .0) (subst (λ (x : List ℕ). length x ≤ length buf) (r .0) h) in
-    (w .0 ∙ ap (λ (x : List ℕ). record { number = 0; length = length x }) (sym (r .0)), w .1 ∙ ap (lent buf) (sym (r .0)))
+    let is = read-written l m e in
+    let w = writes buf m (read-was-written l m e .1 .0) (subst (λ (x : List ℕ). length x ≤ length buf) is h) in
+    (w .0 ∙ ap (λ (x : List ℕ). record { number = 0; length = length x }) (sym is), w .1 ∙ ap (lent buf) (sym is))
 
 -- A buffer with room for the longest line has room for every line.
 pub longest-room : (buf : List ℕ) (m : Message) → Fits m → longestLine + 1 ≤ length buf → written buf m .number ≡ 0

@@ -5,7 +5,7 @@ use mathlib.Core.Bool.{Bool, true, false, _&&_, _||_, cond}
 use mathlib.Core.List.{List, [], _∷_}
 use lib.Dec.{eqb}
 use Rattle.text.specs.Digits.{decimal, letterOf}
-use Rattle.text.specs.Fields.{lineOf, fieldAt, over}
+use Rattle.text.specs.Fields.{IsLineOf, fieldAt, over}
 use Rattle.entry.specs.Hex.{entryText, IsEntry}
 use Rattle.messages.specs.declared.setup.Setup.{Setup}
 use Rattle.messages.specs.declared.setup.SizesAt.{SizesAt}
@@ -27,8 +27,12 @@ abbrev pub faulty : Bool → ℕ → List ℕ
 faulty true f = dash ∷ []
 faulty false f = decimal f
 
-unfoldable pub setupLine : Setup → List ℕ
-setupLine h = lineOf setupKind (decimal (h .n) ∷ faulty (h .dash) (h .f) ∷ seat (h .seat) ∷ entryText (h .entry) ∷ [])
+abbrev pub setupFields : Setup → List (List ℕ)
+setupFields h = decimal (h .n) ∷ faulty (h .dash) (h .f) ∷ seat (h .seat) ∷ entryText (h .entry) ∷ []
+
+-- The texts that are read as its line.
+unfoldable pub IsSetupLine : List ℕ → Setup → Type 0
+IsSetupLine l h = IsLineOf l setupKind (setupFields h)
 
 pub record FitsSetup (h : Setup) : Type 0 where
   pub n : h .n ≤ topSetup
@@ -40,8 +44,8 @@ pub record FitsSetup (h : Setup) : Type 0 where
 
 -- What reading an H is: what its line says, and 19 exactly where it is no such line.
 abbrev pub ReadsSetup : List ℕ → Opening → Type 0
-ReadsSetup l (Read h) = (l ≡ setupLine h) × FitsSetup h
-ReadsSetup l Malformed = (h : Setup) → FitsSetup h → l ≡ setupLine h → ⊥
+ReadsSetup l (Read h) = IsSetupLine l h × FitsSetup h
+ReadsSetup l Malformed = (h : Setup) → FitsSetup h → IsSetupLine l h → ⊥
 
 abbrev pub openingNumber : Opening → ℕ
 openingNumber (Read h) = 0

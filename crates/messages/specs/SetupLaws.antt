@@ -2,21 +2,22 @@
 use Prim.Native.Nat.{ℕ, _≤_}
 use mathlib.Core.Path.{_≡_, refl, sym, ap, _∙_, subst}
 use mathlib.Core.Bool.{Bool, true, false, _&&_, _||_, cond}
-use mathlib.Core.List.{List, [], _∷_}
+use mathlib.Core.List.{List, [], _∷_, _++_}
 use native.Mathlib.Omega.{arith}
 use lib.Dec.{eqb, lit<, lit≤}
+use lib.ListN.{length}
 use borrow.Author.Tests.{eqb-true, eq-eqb}
 use Rattle.base.specs.Tests.{true≢false, and-true, or-alone, or-r}
 use Rattle.base.specs.Unique.{OneAnswer}
-use Rattle.text.specs.DecimalLaws.{decimal-below}
+use Rattle.text.specs.DecimalLaws.{decimal-below, decimal-short, decimal-length}
 use Rattle.text.specs.DigitLaws.{letter-one}
 use Rattle.text.specs.Digits.{decimal, decDigit, plain, decimalOf, letterOf}
 use Rattle.text.specs.declared.Number.{Number}
-use Rattle.text.specs.FieldLaws.{Ahead, over-reads, over-exact, kind-reads, kind-exact}
-use Rattle.text.specs.Fields.{fieldAt, behind, endBehind, over}
+use Rattle.text.specs.FieldLaws.{Ahead, over-reads, over-exact, kind-reads, line-ahead, kind-exact, line-front, line-size, tabbed-length}
+use Rattle.text.specs.Fields.{lineEnd, fieldAt, behind, endBehind, over}
 use Rattle.entry.specs.Entry.{zeroEntry}
 use Rattle.entry.specs.Hex.{entryText}
-use Rattle.entry.specs.HexLaws.{zero-is-entry}
+use Rattle.entry.specs.HexLaws.{zero-is-entry, text-length}
 use Rattle.messages.specs.declared.setup.Setup.{Setup}
 use Rattle.messages.specs.declared.setup.SizesAt.{SizesAt}
 use Rattle.messages.specs.declared.setup.Opening.{Opening}
@@ -24,8 +25,9 @@ use Rattle.messages.specs.declared.setup.Opening.the-variants.{Read, Mal
 use Rattle.messages.specs.declared.read.NumberAt.{NumberAt}
 use Rattle.messages.specs.declared.read.EntryAt.{EntryAt}
 use Rattle.messages.specs.Lines.{dash, seat}
+use Rattle.messages.specs.Longest.{longestRead}
 use Rattle.messages.specs.Reader.{numberAt, letterAt, entryAt}
-use Rattle.messages.specs.Setup.{topSetup, setupKind, faulty, setupLine, FitsSetup, ReadsSetup, openingNumber}
+use Rattle.messages.specs.Setup.{topSetup, setupKind, faulty, setupFields, IsSetupLine, FitsSetup, ReadsSetup, openingNumber}
 use Rattle.messages.specs.Setup.{sizesAt, opened, readSetup}
 use Rattle.messages.specs.AtLaws.{number-back, number-no-dash, entry-back, dash-back}
 use Rattle.messages.specs.AtLaws.{number-written, entry-written, letter-written}
@@ -96,14 +98,13 @@ module _ (t : List ℕ) (e : ℕ) (fs : List (List ℕ)) where
       let x = number-written t e (faulty d (f .number .value) ∷ fs) topSetup (lit< tt) (both .0) (w .0) in
       (x .0, (x .1, (decimal-below topSetup (behind t (n .end)), w .1)))
 
--- The line of an H reads as the H.
-pub setup-reads-back : (h : Setup) → FitsSetup h → readSetup (setupLine h) ≡ Read h
-unfolding readSetup setupLine
-setup-reads-back h f =
-    let l = setupLine h in
+-- A line of an H reads as the H.
+pub setup-reads-back : (l : List ℕ) (h : Setup) → FitsSetup h → IsSetupLine l h → readSetup l ≡ Read h
+unfolding readSetup IsSetupLine
+setup-reads-back l h f is =
     let own = seat (h .seat) ∷ entryText (h .entry) ∷ [] in
-    let k = kind-reads setupKind (decimal (h .n) ∷ faulty (h .dash) (h .f) ∷ own) refl in
-    let z = sizes-back l 1 own (h .n) (h .dash) (h .f) (f .n) (f .f) (f .unused) refl in
+    let k = kind-reads l setupKind (setupFields h) refl is in
+    let z = sizes-back l 1 own (h .n) (h .dash) (h .f) (f .n) (f .f) (f .unused) (line-ahead l setupKind (setupFields h) is) in
     let end = sizesAt l 1 .end in
     let s = number-back l end (entryText (h .entry) ∷ []) topSetup (h .seat .0) (lit< tt) (f .seat) (z .1) in
     let x = entry-back l (endBehind l end) [] (h .entry) (f .entry) (s .1) in
@@ -116,7 +117,7 @@ Sound l (Read h) = ReadsSetup l (Read h)
 Sound l Malformed = Unit {0}
 
 sound : (l : List ℕ) → Sound l (readSetup l)
-unfolding readSetup setupLine
+unfolding readSetup IsSetupLine
 sound l = go (all-good && over l (x .end)) refl
   where
     kind : Bool
@@ -161,7 +162,7 @@ sound l = go (all-good && over l (x .end)) refl
         )
 
 -- What reads as an H is the H's line.
-pub setup-was-written : (l : List ℕ) (h : Setup) → readSetup l ≡ Read h → (l ≡ setupLine h) × FitsSetup h
+pub setup-was-written : (l : List ℕ) (h : Setup) → readSetup l ≡ Read h → IsSetupLine l h × FitsSetup h
 setup-was-written l h e = subst (Sound l) e (sound l)
 
 -- ---- the reader's contract: the reader meets it, and nothing else does
@@ -170,11 +171,11 @@ reads-setup l = go (readSetup l) refl
   where
     go : (r : Opening) → readSetup l ≡ r → ReadsSetup l r
     go (Read h) e = setup-was-written l h e
-    go Malformed e = λ h f is. let n = ap openingNumber (sym e ∙ ap readSetup is ∙ setup-reads-back h f) in omega arith
+    go Malformed e = λ h f is. let n = ap openingNumber (sym e ∙ setup-reads-back l h f is) in omega arith
 
 -- Every answer that meets the contract is the reader's.
 pub setup-only : (l : List ℕ) (r : Opening) → ReadsSetup l r → r ≡ readSetup l
-setup-only l (Read h) a = sym (ap readSetup (a .0) ∙ setup-reads-back h (a .1))
+setup-only l (Read h) a = sym (setup-reads-back l h (a .1) (a .0))
 setup-only l Malformed a = go (readSetup l) refl
   where
     go : (r : Opening) → readSetup l ≡ r → Malformed ≡ r
@@ -183,6 +184,28 @@ setup-only l Malformed a = go (readSetup l) refl
 
 pub setup-unique : (l : List ℕ) → OneAnswer (ReadsSetup l)
 setup-unique l r s a b = setup-only l r a ∙ sym (setup-only l s b)
+
+-- ---- how long it is, and its last byte
+faulty-short : (dashed : Bool) (f : ℕ) → f ≤ topSetup → length (faulty dashed f) ≤ 2
+faulty-short true f h = lit≤ tt
+faulty-short false f h = omega (arith, decimal-length f, decimal-short 1 f (omega arith) (lit≤ tt))
+
+pub setup-short : (l : List ℕ) (h : Setup) → FitsSetup h → IsSetupLine l h → length l ≤ longestRead
+unfolding IsSetupLine
+setup-short l h f is =
+    let own = seat (h .seat) ∷ entryText (h .entry) ∷ [] in
+    let n = tabbed-length (decimal (h .n)) (faulty (h .dash) (h .f) ∷ own) in
+    let x = tabbed-length (faulty (h .dash) (h .f)) own in
+    let s = tabbed-length (seat (h .seat)) (entryText (h .entry) ∷ []) in
+    let e = tabbed-length (entryText (h .entry)) [] in
+    let ns = faulty-short false (h .n) (f .n) in
+    let xs = faulty-short (h .dash) (h .f) (f .f) in
+    let ss = faulty-short false (h .seat .0) (f .seat) in
+    omega (arith, line-size l setupKind (setupFields h) is, text-length (h .entry))
+
+pub setup-ended : (l : List ℕ) (h : Setup) → IsSetupLine l h → (w : List ℕ) × (l ≡ w ++ lineEnd)
+unfolding IsSetupLine
+setup-ended l h is = line-front l setupKind (setupFields h) is
 
 -- ---- H that fit, with an f and with a dash
 abbrev pub someSetup : Bool → Setup

@@ -1,26 +1,21 @@
--- Texts with no tab and no LF in them: what a field may hold.
+-- Texts in which nothing parts fields or ends a line: what a field may hold.
 use Prim.Native.Nat.{ℕ, zero, suc, _/_, _%_, _^_, _≤_}
 use mathlib.Core.Path.{_≡_}
-use mathlib.Core.Bool.{false, _||_}
+use mathlib.Core.Bool.{false}
 use mathlib.Core.List.{List, [], _∷_, _++_}
 use native.Mathlib.Omega.{arith}
-use lib.Dec.{eqb}
-use borrow.Author.Tests.{ne-eqb}
 use Rattle.text.specs.Digits.{digits, decChar, hexChar, width, decimal, wordDigits, hex}
-use Rattle.text.specs.Fields.{tab, lf}
+use Rattle.text.specs.FieldEnds.{clean-byte}
+use Rattle.text.specs.Fields.{stopper}
 use Rattle.text.specs.HexLaws.{hex-from}
 
 abbrev pub Clean : List ℕ → Type 0
 Clean [] = Unit
-Clean (b ∷ bs) = ((eqb b tab || eqb b lf) ≡ false) × Clean bs
+Clean (b ∷ bs) = (stopper b ≡ false) × Clean bs
 
 pub clean-append : (f g : List ℕ) → Clean f → Clean g → Clean (f ++ g)
 clean-append [] g c d = d
 clean-append (b ∷ bs) g c d = (c .0, clean-append bs g (c .1) d)
-
--- A byte from 48 on is neither tab nor LF.
-pub clean-byte : (b : ℕ) → 48 ≤ b → (eqb b tab || eqb b lf) ≡ false
-clean-byte b h = simp (ne-eqb b tab (λ e. omega arith), ne-eqb b lf (λ e. omega arith))
 
 digits-clean : (b : ℕ) (char : ℕ → ℕ) → ((d : ℕ) → 48 ≤ char d) → (k v : ℕ) → Clean (digits b char k v)
 digits-clean b char from zero v = tt

@@ -9,9 +9,9 @@ use lib.Dec.{eqb, ltb}
 use lib.ListN.{length, take, drop, getD, drop-of-length-le, length-drop}
 use lib.Seq.{drop-cons}
 use mir.Val.{boolByte}
-use borrow.Author.Tests.{ltb-true}
+use borrow.Author.Tests.{ltb-true, ne-eqb}
 use Rattle.base.specs.Tests.{but-not}
-use Rattle.text.specs.Fields.{tab, lf, ending, upTo, fieldAt, placeBehind, behind, endBehind}
+use Rattle.text.specs.Fields.{tab, lf, stopper, ending, upTo, fieldAt, placeBehind, behind, endBehind}
 
 -- A field is the front of its text.
 pub up-take : (l : List ℕ) → take (length (upTo l)) l ≡ upTo l
@@ -62,6 +62,10 @@ module _ (s : List ℕ) (i : ℕ) (h : i < length s) (k : ℕ) (p : k ≡ ending
 
   pub end-on : (eqb (getD s i 0) tab || ltb 0 k) ≡ false → i + length (fieldAt s i) ≡ i + 1 + length (fieldAt s (i + 1))
   end-on e = rw (drop-cons s i 0 h, test false e, add-one) (omega (arith, add-one i))
+
+-- A byte from 48 on neither parts fields nor begins a line's end.
+pub clean-byte : (b : ℕ) → 48 ≤ b → stopper b ≡ false
+clean-byte b h = simp (ne-eqb b tab (λ e. omega arith), ne-eqb b lf (λ e. omega arith))
 
 -- ---- the end of a line
 

@@ -1,5 +1,5 @@
 -- Fields written and read back, and what was read was written so.
-use Prim.Native.Nat.{ℕ, suc, _+_, _-_, _<_}
+use Prim.Native.Nat.{ℕ, suc, _+_, _-_, _≤_, _<_}
 use mathlib.Core.Path.{_≡_, refl, sym, ap, ap₂, _∙_, subst}
 use mathlib.Core.Bool.{Bool, true, false, _&&_, _||_, cond}
 use mathlib.Core.List.{List, [], _∷_, _++_, append-assoc}
@@ -12,7 +12,8 @@ use Rattle.base.specs.Tests.{and-true, or-false}
 use Rattle.text.specs.Clean.{Clean}
 use Rattle.text.specs.Digits.{letterOf}
 use Rattle.text.specs.DigitLaws.{Begins, letter-one}
-use Rattle.text.specs.Fields.{tab, lf, lineEnd, tabbed, lineOf, ending, upTo, fieldAt, placeBehind, behind, endBehind, over}
+use Rattle.text.specs.Fields.{tab, lf, lineEnd, tabbed, lineOf, longestEnd, IsLineOf, stopper}
+use Rattle.text.specs.Fields.{ending, upTo, fieldAt, placeBehind, behind, endBehind, over}
 
 -- From place e on the text is these fields, each behind a tab, and the line's end.
 abbrev pub Ahead : List ℕ → ℕ → List (List ℕ) → Type 0
@@ -45,8 +46,8 @@ stops : (fs : List (List ℕ)) → upTo (tabbed fs ++ lineEnd) ≡ []
 stops [] = refl
 stops (f ∷ fs) = refl
 
--- A byte that is neither tab nor LF goes on.
-goes-on : (b : ℕ) (bs : List ℕ) → (eqb b tab || eqb b lf) ≡ false → (eqb b tab || ltb 0 (ending (b ∷ bs))) ≡ false
+-- Any other byte goes on.
+goes-on : (b : ℕ) (bs : List ℕ) → stopper b ≡ false → (eqb b tab || ltb 0 (ending (b ∷ bs))) ≡ false
 goes-on b bs c = let o = or-false (eqb b tab) (eqb b lf) c in simp (o .0, o .1)
 
 -- A clean text is the field, where what is behind it stops one.
@@ -141,14 +142,39 @@ over-exact t e h =
 
 -- ---- the kind, which is the first field
 
--- The kind that was written is read, and a kind that was read was written before the fields.
-pub kind-reads : (k : ℕ) (fs : List (List ℕ)) → (eqb k tab || eqb k lf) ≡ false → letterOf (fieldAt (lineOf k fs) 0) ≡ k
-unfolding letterOf
-kind-reads k fs c = ap letterOf (up-clean (k ∷ []) (tabbed fs ++ lineEnd) (c, tt) (stops fs))
+-- The kind that was written is read.
+pub kind-reads : (l : List ℕ) (k : ℕ) (fs : List (List ℕ)) → stopper k ≡ false → IsLineOf l k fs → letterOf (fieldAt l 0) ≡ k
+unfolding letterOf IsLineOf
+kind-reads l k fs c h =
+    ap (λ (t : List ℕ). letterOf (fieldAt t 0)) h ∙ ap letterOf (up-clean (k ∷ []) (tabbed fs ++ lineEnd) (c, tt) (stops fs))
 
-pub kind-exact : (l : List ℕ) (k : ℕ) (fs : List (List ℕ)) → 0 < k → letterOf (fieldAt l 0) ≡ k → Ahead l 1 fs → l ≡ lineOf k fs
+-- The fields stand behind it.
+pub line-ahead : (l : List ℕ) (k : ℕ) (fs : List (List ℕ)) → IsLineOf l k fs → Ahead l 1 fs
+unfolding IsLineOf
+line-ahead l k fs h = ap (drop 1) h
+
+-- A kind that was read was written before the fields.
+pub kind-exact : (l : List ℕ) (k : ℕ) (fs : List (List ℕ)) → 0 < k → letterOf (fieldAt l 0) ≡ k → Ahead l 1 fs → IsLineOf l k fs
+unfolding IsLineOf
 kind-exact l k fs p h a =
     up-rest l ∙ ap (λ (f : List ℕ). f ++ drop (length f) l) (letter-one (upTo l) k p h) ∙ ap (λ (s : List ℕ). k ∷ s) a
+
+-- ---- the lines that are read
+
+-- The one that is written.
+pub line-written : (k : ℕ) (fs : List (List ℕ)) → IsLineOf (lineOf k fs) k fs
+unfolding IsLineOf
+line-written k fs = refl
+
+-- It is the only one.
+pub line-only : (l : List ℕ) (k : ℕ) (fs : List (List ℕ)) → IsLineOf l k fs → l ≡ lineOf k fs
+unfolding IsLineOf
+line-only l k fs h = h
+
+-- An LF is the last byte of each.
+pub line-front : (l : List ℕ) (k : ℕ) (fs : List (List ℕ)) → IsLineOf l k fs → (w : List ℕ) × (l ≡ w ++ lineEnd)
+unfolding IsLineOf
+line-front l k fs h = (k ∷ tabbed fs, h)
 
 -- ---- how long
 
@@ -159,3 +185,8 @@ tabbed-length f fs = let n = length-append f (tabbed fs) in omega arith
 -- Beside its fields a line has its kind and its end.
 pub line-length : (k : ℕ) (fs : List (List ℕ)) → length (lineOf k fs) ≡ 2 + length (tabbed fs)
 line-length k fs = let n = length-append (tabbed fs) lineEnd in omega arith
+
+-- None that is read is longer than the longest end makes it.
+pub line-size : (l : List ℕ) (k : ℕ) (fs : List (List ℕ)) → IsLineOf l k fs → length l ≤ 1 + length (tabbed fs) + longestEnd
+unfolding IsLineOf
+line-size l k fs h = omega (arith, ap length h, line-length k fs)

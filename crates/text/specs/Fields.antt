@@ -1,5 +1,6 @@
 -- 01, "Lines": "fields parted by one tab, ended by one LF (0x0A)".
 use Prim.Native.Nat.{ℕ, _+_}
+use mathlib.Core.Path.{_≡_}
 use mathlib.Core.Bool.{Bool, _&&_, _||_, cond}
 use mathlib.Core.List.{List, [], _∷_, _++_}
 use lib.Dec.{eqb, ltb}
@@ -27,6 +28,18 @@ abbrev pub lineOf : ℕ → List (List ℕ) → List ℕ
 lineOf kind fs = kind ∷ (tabbed fs ++ lineEnd)
 
 -- ---- read
+
+-- A line's end is at most so long, as it is read.
+abbrev pub longestEnd : ℕ
+longestEnd = 1
+
+-- The texts that are read as such a line: the one that is written.
+unfoldable pub IsLineOf : List ℕ → ℕ → List (List ℕ) → Type 0
+IsLineOf l kind fs = l ≡ lineOf kind fs
+
+-- The bytes that part fields or may begin a line's end: no field that is written has one.
+abbrev pub stopper : ℕ → Bool
+stopper b = eqb b tab || eqb b lf
 
 -- How many bytes of a line's end stand at the front of a text: none, or its one LF.
 abbrev pub ending : List ℕ → ℕ

@@ -4,21 +4,15 @@ use mathlib.Core.Path.{_≡_, refl, sym, ap, _∙_}
 use mathlib.Core.Bool.{Bool, true, false, cond}
 use mathlib.Core.List.{List, [], _∷_, _++_, append-nil}
 use native.Mathlib.Omega.{arith}
-use lib.Dec.{eqb, lit≤}
+use lib.Dec.{eqb}
 use lib.ListN.{length, length-append}
 use Rattle.base.specs.Tests.{true≢false}
-use Rattle.text.specs.DecimalLaws.{decimal-short, decimal-length}
-use Rattle.text.specs.Digits.{decimal, letterOf}
-use Rattle.text.specs.FieldLaws.{tabbed-length, line-length}
-use Rattle.text.specs.Fields.{lf, lineEnd, tabbed}
-use Rattle.entry.specs.Hex.{entryText}
-use Rattle.entry.specs.HexLaws.{text-length}
+use Rattle.text.specs.Digits.{letterOf}
+use Rattle.text.specs.Fields.{lf, lineEnd}
 use Rattle.messages.specs.declared.setup.Opening.{Opening}
-use Rattle.messages.specs.declared.setup.Setup.{Setup}
-use Rattle.messages.specs.Lines.{seat}
-use Rattle.messages.specs.Longest.{longestLine}
-use Rattle.messages.specs.Setup.{topSetup, setupKind, faulty, setupLine, FitsSetup, readSetup}
-use Rattle.messages.specs.SetupLaws.{setup-only}
+use Rattle.messages.specs.Longest.{longestRead}
+use Rattle.messages.specs.Setup.{readSetup}
+use Rattle.messages.specs.SetupLaws.{setup-only, setup-short, setup-ended}
 use Rattle.transcript.specs.Texts.{linesOf}
 use Rattle.transcript.specs.Transcript.{setupOf, badSetup, opened, output, transcript}
 use Rattle.transcript.specs.Feeding.{lastEvent, begunAs, begunBy}
@@ -27,34 +21,16 @@ use Rattle.transcript.specs.RestLaws.{rest}
 use Rattle.transcript.specs.FeedLaws.{feeds}
 
 -- ---- what is no H
-faulty-short : (dashed : Bool) (f : ℕ) → f ≤ topSetup → length (faulty dashed f) ≤ 2
-faulty-short true f h = lit≤ tt
-faulty-short false f h = omega (arith, decimal-length f, decimal-short 1 f (omega arith) (lit≤ tt))
-
-abbrev setupFields : Setup → List (List ℕ)
-setupFields h = decimal (h .n) ∷ faulty (h .dash) (h .f) ∷ seat (h .seat) ∷ entryText (h .entry) ∷ []
-
-setup-short : (h : Setup) → FitsSetup h → length (setupLine h) ≤ longestLine + 1
-unfolding setupLine
-setup-short h f =
-    let own = seat (h .seat) ∷ entryText (h .entry) ∷ [] in
-    let n = tabbed-length (decimal (h .n)) (faulty (h .dash) (h .f) ∷ own) in
-    let x = tabbed-length (faulty (h .dash) (h .f)) own in
-    let s = tabbed-length (seat (h .seat)) (entryText (h .entry) ∷ []) in
-    let e = tabbed-length (entryText (h .entry)) [] in
-    let ns = faulty-short false (h .n) (f .n) in
-    let xs = faulty-short (h .dash) (h .f) (f .f) in
-    let ss = faulty-short false (h .seat .0) (f .seat) in
-    omega (arith, line-length setupKind (setupFields h), text-length (h .entry))
 
 -- It ends with an LF, as every line does, and is no longer than the longest.
 no-setup : (l : List ℕ) → hasEnd l ≡ false → readSetup l ≡ Opening.Malformed
-unfolding setupLine
 no-setup l n =
-    sym (setup-only l Opening.Malformed (λ h f e. true≢false (sym (ends-there (setupKind ∷ tabbed (setupFields h))) ∙ ap hasEnd (sym e) ∙ n)))
+    sym (setup-only l Opening.Malformed (λ h f e.
+    let w = setup-ended l h e in
+    true≢false (sym (ends-there (w .0)) ∙ ap hasEnd (sym (w .1)) ∙ n)))
 
-long-setup : (l : List ℕ) → longestLine + 1 < length l → readSetup l ≡ Opening.Malformed
-long-setup l h = sym (setup-only l Opening.Malformed (λ s f e. omega (arith, setup-short s f, ap length e)))
+long-setup : (l : List ℕ) → longestRead < length l → readSetup l ≡ Opening.Malformed
+long-setup l h = sym (setup-only l Opening.Malformed (λ s f e. omega (arith, setup-short l s f e)))
 
 -- ---- the first line
 
@@ -86,7 +62,7 @@ ends-setup [] n = begins-none
 ends-setup (b ∷ bs) n = ap output (lines-alone b bs n) ∙ bad-setup (b ∷ bs) [] (no-setup (b ∷ bs) n)
 
 -- It is too long: what follows need not be read.
-pub cut-setup : (w more : List ℕ) → hasEnd w ≡ false → longestLine + 1 < length w
+pub cut-setup : (w more : List ℕ) → hasEnd w ≡ false → longestRead < length w
     → transcript (w ++ more) ≡ badSetup (begunBy [] .number)
 unfolding transcript
 cut-setup w more n h = go (linesOf more) refl

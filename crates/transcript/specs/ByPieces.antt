@@ -11,7 +11,7 @@ use lib.ListN.{length, drop, length-append, length-drop}
 use borrow.Author.Tests.{eq-eqb, ne-eqb, eqb-true, eqb-false}
 use Rattle.base.specs.Tests.{true≢false}
 use Rattle.text.specs.Fields.{lf, lineEnd}
-use Rattle.messages.specs.Longest.{longestLine}
+use Rattle.messages.specs.Longest.{longestRead}
 use Rattle.transcript.specs.declared.State.{State}
 use Rattle.transcript.specs.Texts.{linesOf}
 use Rattle.transcript.specs.Transcript.{badSetup, transcript}
@@ -57,7 +57,7 @@ pub data Traces : List ℕ → List ℕ → List ℕ → Type 0 where
   bad : (w held later : List ℕ) → hasEnd w ≡ false → (begunBy (w ++ lineEnd) .number ≡ 0 → ⊥)
       → Traces (w ++ (lf ∷ held)) later (badSetup (begunBy (w ++ lineEnd) .number))
   -- It is too long, or missing: `begin` is handed no line, and the run ends.
-  long : (held later : List ℕ) → hasEnd held ≡ false → longestLine + 1 < length held → Traces held later (badSetup (begunBy [] .number))
+  long : (held later : List ℕ) → hasEnd held ≡ false → longestRead < length held → Traces held later (badSetup (begunBy [] .number))
   missing : (held : List ℕ) → hasEnd held ≡ false → Traces held [] (badSetup (begunBy [] .number))
 
 started : (w held later : List ℕ) (b : Bool) → hasEnd w ≡ false → eqb (begunBy (w ++ lineEnd) .number) 0 ≡ b

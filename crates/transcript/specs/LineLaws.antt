@@ -9,10 +9,9 @@ use lib.ListN.{length, drop}
 use lib.Seq.{drop-append-seam}
 use borrow.Author.Tests.{eqb-true}
 use Rattle.base.specs.Tests.{true≢false, or-false, or-r}
-use Rattle.text.specs.Fields.{lf, lineEnd, tabbed}
+use Rattle.text.specs.Fields.{lf, lineEnd}
 use Rattle.messages.specs.declared.read.Line.the-variants.{Malformed}
-use Rattle.messages.specs.Lines.{kind, fields, line}
-use Rattle.messages.specs.Longest.{longestLine, longest}
+use Rattle.messages.specs.Longest.{longestRead, longest-read, line-ended}
 use Rattle.messages.specs.Reader.{readLine}
 use Rattle.messages.specs.RoundTrip.{reads-only}
 use Rattle.transcript.specs.Texts.{onto, linesOf}
@@ -158,10 +157,9 @@ ends-there (b ∷ bs) = or-r (eqb b lf) (hasEnd (bs ++ lineEnd)) (ends-there bs)
 
 -- "a last line without LF too, is an event with 19"
 pub no-end : (l : List ℕ) → hasEnd l ≡ false → readLine l ≡ Malformed
-unfolding line
 no-end l n =
-    sym (reads-only l Malformed (λ m f e. true≢false (sym (ends-there (kind m ∷ tabbed (fields m))) ∙ ap hasEnd (sym e) ∙ n)))
+    sym (reads-only l Malformed (λ m f e. let w = line-ended l m e in true≢false (sym (ends-there (w .0)) ∙ ap hasEnd (sym (w .1)) ∙ n)))
 
 -- "The longest is 80 characters before the LF."
-pub too-long : (l : List ℕ) → longestLine + 1 < length l → readLine l ≡ Malformed
-too-long l h = sym (reads-only l Malformed (λ m f e. omega (arith, longest m f, ap length e)))
+pub too-long : (l : List ℕ) → longestRead < length l → readLine l ≡ Malformed
+too-long l h = sym (reads-only l Malformed (λ m f e. omega (arith, longest-read l m e f)))

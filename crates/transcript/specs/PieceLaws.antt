@@ -10,7 +10,7 @@ use lib.Seq.{drop-drop}
 use borrow.Author.Tests.{ltb-true, leb-true, ne-eqb}
 use Rattle.base.specs.Tests.{true≢false, and-true, or-r}
 use Rattle.messages.specs.declared.read.Line.the-variants.{Malformed}
-use Rattle.messages.specs.Longest.{longestLine}
+use Rattle.messages.specs.Longest.{longestRead}
 use Rattle.messages.specs.Reader.{readLine}
 use Rattle.transcript.specs.declared.State.{State}
 use Rattle.transcript.specs.declared.sort.Sorted.{Sorted}
@@ -39,19 +39,19 @@ ends st (b ∷ bs) n =
 
 -- ---- a line that is too long
 
--- "The longest is 80 characters before the LF": more than 81 bytes without one, or any where the front was dropped.
+-- "The longest is 80 characters before the LF": more bytes without one than any line has, or any where the front was dropped.
 abbrev pub tooLong : State → List ℕ → Bool
-tooLong st w = st .cut || ltb (longestLine + 1) (length w)
+tooLong st w = st .cut || ltb (longestRead) (length w)
 
-long-malformed : (c : Bool) (w l : List ℕ) → (c || ltb (longestLine + 1) (length w)) ≡ true → readUnless c (w ++ l) ≡ Malformed
+long-malformed : (c : Bool) (w l : List ℕ) → (c || ltb (longestRead) (length w)) ≡ true → readUnless c (w ++ l) ≡ Malformed
 long-malformed true w l h = refl
-long-malformed false w l h = too-long (w ++ l) (omega (arith, length-append w l, ltb-true (longestLine + 1) (length w) h))
+long-malformed false w l h = too-long (w ++ l) (omega (arith, length-append w l, ltb-true (longestRead) (length w) h))
 
 -- It is not over before it began.
-long-some : (c : Bool) (w : List ℕ) → (c || ltb (longestLine + 1) (length w)) ≡ true → (not (eqb (length w) 0) || c) ≡ true
+long-some : (c : Bool) (w : List ℕ) → (c || ltb (longestRead) (length w)) ≡ true → (not (eqb (length w) 0) || c) ≡ true
 long-some true w h = or-r (not (eqb (length w) 0)) true refl
 long-some false w h =
-    let long = ltb-true (longestLine + 1) (length w) h in
+    let long = ltb-true (longestRead) (length w) h in
     ap (λ (b : Bool). not b || false) (ne-eqb (length w) 0 (λ z. omega arith))
 
 -- What is there of it may be dropped.

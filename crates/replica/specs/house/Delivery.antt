@@ -5,8 +5,10 @@ use mathlib.Core.Bool.{Bool, cond}
 use mathlib.Core.List.{List}
 use mathlib.Core.Option.{Option, none, some}
 use borrow.Author.Tests.{eq-eqb}
+use Rattle.seats.specs.declared.View.{View}
 use Rattle.votes.specs.declared.Row.{Row}
 use Rattle.messages.specs.declared.Message.{Message}
+use Rattle.messages.specs.declared.Message.the-variants.{Start, Enter}
 use Rattle.replica.specs.Replica.{fresh}
 use Rattle.replica.specs.Steps.{quiet, step}
 use Rattle.replica.specs.house.Claims.{Statement, Claim, claims}
@@ -75,3 +77,8 @@ pub delivery : (n f : ℕ) (faulty : ℕ → Bool) → Setting n f faulty → (h
 delivery n f faulty setting h run k m e message rows a =
     let x = subst (Passing n f faulty h) e (run-passing n f faulty setting run k) in
     λ c. each-in (Told n f faulty h) c (claims n message rows) (each-in _ (message, rows) (m .sent) (x .1) a)
+
+-- "views changed at will": an E asserts nothing, so it may be handed to any seat at any time. So may an S.
+pub at-will : (n : ℕ) (faulty : ℕ → Bool) (h : Members) (rows : List Row)
+    → ((v : View) → Covered n faulty h (Enter v) rows) × Covered n faulty h Start rows
+at-will n faulty h rows = (λ v c a o. absurd a, λ c a o. absurd a)

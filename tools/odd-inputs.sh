@@ -1,0 +1,57 @@
+#!/usr/bin/env bash
+# `trace` on inputs and outputs that are none, or too much: what it prints, what it says on standard error, that it ends.
+#   bash tools/odd-inputs.sh TRACE SECOND     the two programs
+# Ends with a status that is not 0 where something differs from what stands here, or from the second program.
+set -u
+trace=$1
+second=$2
+here=$(mktemp -d) || exit 2
+trap 'rm -rf "$here"' EXIT
+failed=0
+
+# What was expected, against the files out and err.
+expect() { # NAME OUT ERR
+    if [ "$(cat "$here/out")" = "$2" ] && [ "$(cat "$here/err")" = "$3" ]; then return; fi
+    printf 'odd input: %s: printed "%s" and said "%s", not "%s" and "%s"\n' "$1" "$(head -c 200 "$here/out")" "$(head -c 200 "$here/err")" "$2" "$3"
+    failed=1
+}
+
+tab=$(printf '\t')
+opening="H${tab}4${tab}1${tab}0${tab}41312020202020202020202000000001"
+enter="E${tab}2"
+unread='trace: standard input cannot be read'
+unwritten='trace: standard output cannot be written'
+
+"$trace" </dev/null >"$here/out" 2>"$here/err"
+expect 'empty input' "0${tab}19" ''
+
+"$trace" <"$here" >"$here/out" 2>"$here/err"
+expect 'a directory' "0${tab}19" "$unread"
+
+"$trace" <&- >"$here/out" 2>"$here/err"
+expect 'closed input' "0${tab}19" "$unread"
+
+: >"$here/out"
+printf '%s\n%s\n' "$opening" "$enter" | "$trace" 2>"$here/err" >/dev/full
+expect 'a full disk' '' "$unwritten"
+
+# An input without end, of which one line is read: the pipe that nobody reads ends the program.
+{ printf '%s\n' "$opening"; yes "$enter"; } 2>/dev/null | timeout 60 "$trace" 2>"$here/err" | head -n 1 >"$here/out"
+[ "${PIPESTATUS[1]}" -ne 124 ] || { echo 'odd input: a closed pipe: trace goes on'; failed=1; }
+expect 'a closed pipe' "1${tab}0${tab}-${tab}-3${tab}V${tab}0${tab}+${tab}2${tab}-" ''
+
+# A program's own bytes, with and without a first line.
+for first in "$opening" ''; do
+    { [ -z "$first" ] || printf '%s\n' "$first"; cat "$trace"; } >"$here/noise"
+    "$trace" <"$here/noise" >"$here/out" 2>"$here/err"
+    "$second" trace <"$here/noise" >"$here/wanted"
+    cmp -s "$here/out" "$here/wanted" || { echo 'odd input: binary noise: trace and the second program differ'; failed=1; }
+done
+
+# A line of 100 MB, in 16 MB of memory.
+{ printf '%s\n' "$opening"; head -c 100000000 /dev/zero | tr '\0' A; printf '\n%s\n' "$enter"; } |
+    (ulimit -v 16384 && "$trace") >"$here/out" 2>"$here/err"
+expect 'a line of 100 MB' "1${tab}19${tab}-${tab}-3${tab}-
+2${tab}0${tab}-${tab}-3${tab}V${tab}0${tab}+${tab}2${tab}-" ''
+
+exit "$failed"
