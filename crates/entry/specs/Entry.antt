@@ -82,5 +82,5 @@ wordOf w [] = w
 wordOf w (x ∷ xs) = wordOf (w * 256 + x) xs
 
 -- The entry whose bytes these 16 are.
-unfoldable pub entryOf : List ℕ → Entry
+abbrev pub entryOf : List ℕ → Entry
 entryOf bs = ofWords (wordOf 0 (take 8 bs)) (wordOf 0 (drop 8 bs))

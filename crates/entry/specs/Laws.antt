@@ -10,8 +10,10 @@ use lib.ListN.{length, take, drop, replicate, length-take, length-drop, take-app
 use borrow.Author.Tests.{eqb-true, eq-eqb, ltb-true, lt-ltb, le-ltb}
 use Rattle.base.specs.Tests.{and-l, and-r, and-i, and-true, and-alone, is-true, true-is, same-test}
 use Rattle.entry.specs.declared.Entry.{Entry}
-use Rattle.entry.specs.Entry.{all, wordBytes, bytesOf, serialLength, serialOf, codeOf, serial, wellFormed, same, less, ofWords, entryOf}
+use Rattle.entry.specs.Entry.{all, wordBytes, bytesOf, serialLength, serialOf, codeOf, serial, wellFormed, sameBytes, same, less}
+use Rattle.entry.specs.Entry.{ofWords, entryOf}
 use Rattle.entry.specs.Flags.{last-step}
+use Rattle.entry.specs.Order.{same-lists, list-same, list-irrefl, list-trans, list-total}
 use Rattle.entry.specs.Words.{below, equal-word, below-word, word-back, isByte, all-join, word-below, word-made}
 
 -- How the code compares: word by word.
@@ -27,17 +29,21 @@ less-words a b =
     below-word (a .hi) (b .hi) (wordBytes (a .lo)) (wordBytes (b .lo))
     ∙ ap (λ (t : Bool). below (a .hi) (b .hi) t) (below-word (a .lo) (b .lo) [] [] ∙ last-step (ltb (a .lo) (b .lo)) (eqb (a .lo) (b .lo)))
 
+-- From words to bytes and back.
+pub bytes-back : (e : Entry) → entryOf (bytesOf e) ≡ e
+bytes-back e = ap₂ ofWords (word-back (e .hi)) (word-back (e .lo))
+
+pub bytes-tell : (a b : Entry) → bytesOf a ≡ bytesOf b → a ≡ b
+bytes-tell a b h = sym (bytes-back a) ∙ ap entryOf h ∙ bytes-back b
+
 -- `same` is equality.
 pub same-eq : (a b : Entry) → T (same a b) → a ≡ b
-same-eq a b h =
-    let t = and-true (eqb (a .hi) (b .hi)) (eqb (a .lo) (b .lo)) (sym (same-words a b) ∙ true-is (same a b) h) in
-    ap₂ ofWords (eqb-true (a .hi) (b .hi) (t .0)) (eqb-true (a .lo) (b .lo) (t .1))
+unfolding same
+same-eq a b h = bytes-tell a b (same-lists (bytesOf a) (bytesOf b) h)
 
 pub eq-same : (a b : Entry) → a ≡ b → same a b ≡ true
-eq-same a b p =
-    let high = eq-eqb (a .hi) (b .hi) (ap (λ (e : Entry). e .hi) p) in
-    let low = eq-eqb (a .lo) (b .lo) (ap (λ (e : Entry). e .lo) p) in
-    same-words a b ∙ simp (high, low)
+unfolding same
+eq-same a b p = ap (λ (e : Entry). sameBytes (bytesOf a) (bytesOf e)) (sym p) ∙ list-same (bytesOf a)
 
 pub same-refl : (a : Entry) → T (same a a)
 same-refl a = is-true (same a a) (eq-same a a refl)
@@ -48,52 +54,19 @@ same-sym a b =
     (λ (h : same a b ≡ true). eq-same b a (sym (same-eq a b (is-true (same a b) h))))
     (λ (h : same b a ≡ true). eq-same a b (sym (same-eq b a (is-true (same b a) h))))
 
--- What `less` tells of the words, and what tells it.
-abbrev Ahead : Entry → Entry → Type 0
-Ahead a b = (a .hi < b .hi) ⊎ ((a .hi ≡ b .hi) × (a .lo < b .lo))
-
-less-cases : (a b : Entry) → T (less a b) → Ahead a b
-less-cases a b h = go (ltb (a .hi) (b .hi)) refl (subst T (less-words a b) h)
-  where
-    go : (t : Bool) → ltb (a .hi) (b .hi) ≡ t → T (t || (eqb (a .hi) (b .hi) && ltb (a .lo) (b .lo))) → Ahead a b
-    go true e k = inl (ltb-true (a .hi) (b .hi) e)
-    go false e k =
-        let equal-high = and-l (eqb (a .hi) (b .hi)) (ltb (a .lo) (b .lo)) k in
-        let less-low = and-r (eqb (a .hi) (b .hi)) (ltb (a .lo) (b .lo)) k in
-        inr (eqb→eq (a .hi) (b .hi) equal-high, ltb→lt (a .lo) (b .lo) less-low)
-
-cases-less : (a b : Entry) → Ahead a b → T (less a b)
-cases-less a b (inl h) = rw less-words (simp (lt-ltb (a .hi) (b .hi) h) tt)
-cases-less a b (inr h) = rw less-words (simp (le-ltb (a .hi) (b .hi) (omega arith), eq-eqb (a .hi) (b .hi) (h .0), lt-ltb (a .lo) (b .lo) (h .1)) tt)
-
 -- `less` is a strict total order.
 pub less-irrefl : (a : Entry) → T (not (less a a))
-less-irrefl a = not-T (less a a) (λ (h : T (less a a)). never (less-cases a a h))
-  where
-    never : Ahead a a → ⊥
-    never (inl h) = omega arith
-    never (inr h) = omega arith
+unfolding less
+less-irrefl a = not-T (less a a) (list-irrefl (bytesOf a))
 
 pub less-trans : (a b c : Entry) → T (less a b) → T (less b c) → T (less a c)
-less-trans a b c h k = cases-less a c (go (less-cases a b h) (less-cases b c k))
-  where
-    go : Ahead a b → Ahead b c → Ahead a c
-    go (inl p) (inl q) = inl (omega arith)
-    go (inl p) (inr q) = inl (omega arith)
-    go (inr p) (inl q) = inl (omega arith)
-    go (inr p) (inr q) = inr (omega arith)
+unfolding less
+less-trans a b c h k = list-trans (bytesOf a) (bytesOf b) (bytesOf c) h k
 
 pub less-total : (a b : Entry) → T (not (less a b)) → T (not (less b a)) → a ≡ b
-less-total a b h k =
-    let p : a .hi < b .hi → ⊥ = λ x. T-not (less a b) h (cases-less a b (inl x)) in
-    let q : b .hi < a .hi → ⊥ = λ x. T-not (less b a) k (cases-less b a (inl x)) in
-    let high : a .hi ≡ b .hi = omega arith in
-    let r : a .lo < b .lo → ⊥ = λ x. T-not (less a b) h (cases-less a b (inr (high, x))) in
-    let s : b .lo < a .lo → ⊥ = λ x. T-not (less b a) k (cases-less b a (inr (sym high, x))) in
-    let low : a .lo ≡ b .lo = omega arith in
-    ap₂ ofWords high low
+unfolding less
+less-total a b h k = bytes-tell a b (list-total (bytesOf a) (bytesOf b) refl (T-not (less a b) h) (T-not (less b a) k))
 
--- From words to bytes and back.
 -- "An entry is 16 bytes."
 pub bytes-sixteen : (e : Entry) → length (bytesOf e) ≡ 16
 bytes-sixteen e = refl
@@ -110,13 +83,6 @@ pub any-code : (a b : Entry) → serialOf a ≡ serialOf b → wellFormed a ≡ 
 unfolding wellFormed
 any-code a b e = ap serial e
 
-pub bytes-back : (e : Entry) → entryOf (bytesOf e) ≡ e
-unfolding entryOf
-bytes-back e = ap₂ ofWords (word-back (e .hi)) (word-back (e .lo))
-
-pub bytes-tell : (a b : Entry) → bytesOf a ≡ bytesOf b → a ≡ b
-bytes-tell a b h = sym (bytes-back a) ∙ ap entryOf h ∙ bytes-back b
-
 pub all-append : (test : ℕ → Bool) (xs ys : List ℕ) → T (all test (xs ++ ys)) → T (all test xs) × T (all test ys)
 all-append test [] ys h = (tt, h)
 all-append test (x ∷ xs) ys h =
@@ -124,7 +90,6 @@ all-append test (x ∷ xs) ys h =
     (and-i (test x) (all test xs) (and-l (test x) (all test (xs ++ ys)) h) (r .0), r .1)
 
 pub words-back : (bs : List ℕ) → length bs ≡ 16 → T (all isByte bs) → bytesOf (entryOf bs) ≡ bs
-unfolding entryOf
 words-back bs n h =
     let both = all-append isByte (take 8 bs) (drop 8 bs) (subst (λ (s : List ℕ). T (all isByte s)) (sym (take-append-drop 8 bs)) h) in
     ap₂ (λ (xs ys : List ℕ). xs ++ ys)
@@ -140,5 +105,5 @@ abbrev pub longer : Entry
 longer = entryOf (0x41 ∷ 0x31 ∷ 0x32 ∷ replicate 9 0x20 ++ (0x20 ∷ 0x78 ∷ 0x79 ∷ 0x7A ∷ []))
 
 pub different : (wellFormed shorter ≡ true) × (wellFormed longer ≡ true) × (same shorter longer ≡ false)
-unfolding entryOf wellFormed same
+unfolding wellFormed same
 different = (refl, refl, refl)

@@ -3,6 +3,7 @@ pub mod Flags
 pub mod Hex
 pub mod HexLaws
 pub mod Laws
+pub mod Order
 pub mod Serial
 pub mod Table
 pub mod TableLaws

@@ -11,7 +11,7 @@ use Rattle.text.specs.Digits.{decimal, hex, hexChar, width}
 use Rattle.text.specs.FieldLaws.{line-front, line-size}
 use Rattle.text.specs.Fields.{lineEnd, tabbed, longestEnd}
 use Rattle.entry.specs.Entry.{zeroEntry}
-use Rattle.entry.specs.Hex.{entryText}
+use Rattle.entry.specs.Hex.{entryText, entryDigits}
 use Rattle.entry.specs.HexLaws.{zero-is-entry}
 use Rattle.votes.specs.declared.Vote.{Vote}
 use Rattle.messages.specs.declared.Head.{Head}
@@ -34,7 +34,7 @@ head-short h f =
     let v = decimal-short 9 (h .view .0) (omega (arith, f .view)) (lit≤ tt) in
     omega (arith, head-takes h [])
 
-vote-short : (cast : Bool) (x : Vote) → CastWithin cast x → length (tabbed (vote cast x)) ≤ 63
+vote-short : (cast : Bool) (x : Vote) → CastWithin cast x → length (tabbed (vote cast x)) ≤ entryDigits + 31
 vote-short true x f = omega (arith, vote-takes x, decimal-short 9 (x .view .0) (omega (arith, f .view)) (lit≤ tt))
 vote-short false x f = lit≤ tt
 

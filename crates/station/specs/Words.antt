@@ -96,22 +96,29 @@ replicaOf s ackEntries ackViews voteEntries voteMasks voteViews = record {
 abbrev pub headOf : List ℕ → Head
 headOf m = record { seat = record { 0 = byteOf (word m 0) }; verified = flagOf (word m 1); view = viewOf (word m 2) }
 
+abbrev pub messageEntry : List ℕ → Entry
+messageEntry m = entryOf (word m 3) (word m 4)
+
+abbrev pub messageMask : List ℕ → ℕ
+messageMask m = word m 5
+
+abbrev pub messageCount : List ℕ → ℕ
+messageCount m = byteOf (word m 6)
+
+abbrev pub messageVote : List ℕ → Vote
+messageVote m = voteOf (word m 7) (word m 8) (word m 9) (word m 10) (word m 11) (word m 12)
+
 abbrev pub rowOf : List ℕ → Row
-rowOf m = record {
-  seat = headOf m .seat;
-  verified = headOf m .verified;
-  view = headOf m .view;
-  vote = voteOf (word m 7) (word m 8) (word m 9) (word m 10) (word m 11) (word m 12);
-}
+rowOf m = record { seat = headOf m .seat; verified = headOf m .verified; view = headOf m .view; vote = messageVote m }
 
 -- "the letter of its line; any other is an S"
 unfoldable pub messageOf : ℕ → List ℕ → Message
 messageOf kind m =
     let h = headOf m in
-    let e = entryOf (word m 3) (word m 4) in
+    let e = messageEntry m in
     cond (eqb kind enterKind) (Enter (h .view))
-    (cond (eqb kind proposeKind) (Propose (record { head = h; entry = e; mask = word m 5 }))
+    (cond (eqb kind proposeKind) (Propose (record { head = h; entry = e; mask = messageMask m }))
     (cond (eqb kind acknowledgeKind) (Acknowledge (record { head = h; entry = e }))
     (cond (eqb kind castKind) (Cast (rowOf m))
-    (cond (eqb kind askKind) (Ask (record { head = h; entry = e; count = byteOf (word m 6) }))
+    (cond (eqb kind askKind) (Ask (record { head = h; entry = e; count = messageCount m }))
     (cond (eqb kind confirmKind) (Confirm (record { head = h; entry = e })) Start)))))

@@ -1,6 +1,6 @@
 // A replica and a message as words. A word that is too large for what it stands for counts by its lowest bits.
 ghost use mathlib.Core.Path.{_≡_};
-ghost use Rattle.station.specs.Words.{scalarsOf, replicaOf, messageOf};
+ghost use Rattle.station.specs.Words.{scalarsOf, replicaOf, headOf, messageEntry, messageVote, messageMask, messageCount, messageOf};
 use acks::Acks;
 use entry::Entry;
 use entry::table::Entries;
@@ -155,19 +155,56 @@ pub(crate) fn keep(
     *vote_views = voted;
 }
 
+fn head_of(m: &Words) -> Head
+    ensures { λ r. ⌜ r ≡ headOf (now (m .entry)) ⌝ }
+{
+    Head {
+        seat: Seat((m[0] % BYTES) as u8),
+        verified: m[1] % 2 == 1,
+        view: View((m[2] % VIEWS) as u32),
+    }
+}
+
+fn entry_of(m: &Words) -> Entry
+    ensures { λ r. ⌜ r ≡ messageEntry (now (m .entry)) ⌝ }
+{
+    Entry { hi: m[3], lo: m[4] }
+}
+
+fn vote_of(m: &Words) -> Vote
+    ensures { λ r. ⌜ r ≡ messageVote (now (m .entry)) ⌝ }
+{
+    Vote {
+        entry: Entry {
+            hi: m[10],
+            lo: m[11],
+        },
+        mask: m[12],
+        view: View((m[9] % VIEWS) as u32),
+        cast: m[7] % 2 == 1,
+        verified: m[8] % 2 == 1,
+    }
+}
+
+fn mask_of(m: &Words) -> u64
+    ensures { λ r. ⌜ r ≡ messageMask (now (m .entry)) ⌝ }
+{
+    m[5]
+}
+
+fn count_of(m: &Words) -> u8
+    ensures { λ r. ⌜ r ≡ messageCount (now (m .entry)) ⌝ }
+{
+    (m[6] % BYTES) as u8
+}
+
 // By the letter of its line; any other letter is an S.
 pub(crate) fn message_of(kind: u8, m: &Words) -> Message
     ensures { λ r. ⌜ r ≡ messageOf kind (now (m .entry)) ⌝ }
 {
-    let seat = Seat((m[0] % BYTES) as u8);
-    let verified = m[1] % 2 == 1;
-    let view = View((m[2] % VIEWS) as u32);
-    let h = Head {
-        seat: seat,
-        verified: verified,
-        view: view,
-    };
-    let e = Entry { hi: m[3], lo: m[4] };
+    let h = head_of(m);
+    let e = entry_of(m);
+    let view = h.view;
     if kind == b'E' {
         return Message::Enter(view);
     }
@@ -175,34 +212,27 @@ pub(crate) fn message_of(kind: u8, m: &Words) -> Message
         return Message::Propose(Proposal {
             head: h,
             entry: e,
-            mask: m[5],
+            mask: mask_of(m),
         });
     }
     if kind == b'A' {
         return Message::Acknowledge(Assent { head: h, entry: e });
     }
     if kind == b'V' {
+        let x = vote_of(m);
+        let seat = h.seat;
         return Message::Cast(Row {
             seat: seat,
-            verified: verified,
+            verified: h.verified,
             view: view,
-            vote: Vote {
-                entry: Entry {
-                    hi: m[10],
-                    lo: m[11],
-                },
-                mask: m[12],
-                view: View((m[9] % VIEWS) as u32),
-                cast: m[7] % 2 == 1,
-                verified: m[8] % 2 == 1,
-            },
+            vote: x,
         });
     }
     if kind == b'Q' {
         return Message::Ask(Request {
             head: h,
             entry: e,
-            count: (m[6] % BYTES) as u8,
+            count: count_of(m),
         });
     }
     if kind == b'C' {

@@ -14,6 +14,7 @@ use Rattle.text.specs.Fields.{tabbed}
 use Rattle.text.specs.DecimalLaws.{decimal-short}
 use Rattle.text.specs.Put.{Puts}
 use Rattle.text.specs.PutLaws.{become, put-then}
+use Rattle.entry.specs.Hex.{entryDigits}
 use Rattle.seats.specs.declared.View.{View}
 use Rattle.seats.specs.Mask.{bit}
 use Rattle.votes.specs.declared.Row.{Row}
@@ -29,6 +30,7 @@ use Rattle.messages.specs.Lengths.{head-takes, vote-takes, row-takes, line-take
 use Rattle.messages.specs.Lines.{vote, rowHead, line, topSeat}
 use Rattle.messages.specs.Writer.{writable}
 use Rattle.transcript.specs.Printed.{rowLines, RowWritable}
+use Rattle.transcript.specs.Rooms.{rowRoom}
 
 -- ---- one row after the other
 lines-append : (xs ys : List Row) → rowLines (xs ++ ys) ≡ rowLines xs ++ rowLines ys
@@ -72,7 +74,7 @@ module _ (n f : ℕ) (v : View) (t : VoteRows) where
       become b p (linesBelow k ++ text) (linesBelow (k + 1)) r d (lines-last k ∙ ap linesBelow (sym (add-one k)))
       (put-then b p (linesBelow k) q c text r d before it)
 
-  -- ---- each row has a line, of 81 bytes at most
+  -- ---- each row has a line, of `rowRoom` bytes at most
   pub row-writable : (k : ℕ) → k ≤ topSeat → RowWritable (seatRow k)
   unfolding rowSent rowAt writable
   row-writable k h = go (ltb k n && hasRow n f v t k)
@@ -83,16 +85,16 @@ module _ (n f : ℕ) (v : View) (t : VoteRows) where
 
   module _ (small : v .0 < 2 ^ 32) where
     -- A valid vote is of a lower view.
-    vote-short : (x : Vote) → valid n f v x ≡ true → length (tabbed (vote (x .cast) x)) ≤ 63
+    vote-short : (x : Vote) → valid n f v x ≡ true → length (tabbed (vote (x .cast) x)) ≤ entryDigits + 31
     vote-short x h = go (x .cast) refl
       where
-        go : (c : Bool) → x .cast ≡ c → length (tabbed (vote c x)) ≤ 63
+        go : (c : Bool) → x .cast ≡ c → length (tabbed (vote c x)) ≤ entryDigits + 31
         go true e =
             let u = valid-below n f v x (is-true (valid n f v x) h) (is-true (x .cast) e) in
             omega (arith, vote-takes x, decimal-short 9 (x .view .0) (omega arith) (lit≤ tt))
         go false e = lit≤ tt
 
-    row-short : (k : ℕ) → k ≤ topSeat → length (rowLines (rowList (seatRow k) [])) ≤ 81
+    row-short : (k : ℕ) → k ≤ topSeat → length (rowLines (rowList (seatRow k) [])) ≤ rowRoom
     unfolding rowSent rowAt hasRow
     row-short k h = go (ltb k n && hasRow n f v t k) refl
       where
@@ -100,7 +102,7 @@ module _ (n f : ℕ) (v : View) (t : VoteRows) where
         row = rowAt v t (record { 0 = k })
 
         go : (b : Bool) → (ltb k n && hasRow n f v t k) ≡ b
-            → length (rowLines (rowList (cond b (SeatRow.Filled row) SeatRow.Empty) [])) ≤ 81
+            → length (rowLines (rowList (cond b (SeatRow.Filled row) SeatRow.Empty) [])) ≤ rowRoom
         go true e =
             let held = and-true (ltb k n) (hasRow n f v t k) e .1 in
             let good = and-true (bit (t .filled) k) (valid n f v (voteAt (t .votes) k)) held .1 in
@@ -116,7 +118,7 @@ module _ (n f : ℕ) (v : View) (t : VoteRows) where
             )
         go false e = lit≤ tt
 
-    pub rows-short : (k : ℕ) → k ≤ 64 → length (linesBelow k) ≤ 81 * k
+    pub rows-short : (k : ℕ) → k ≤ 64 → length (linesBelow k) ≤ rowRoom * k
     rows-short zero h = lit≤ tt
     rows-short (suc k) h =
         let both = length-append (linesBelow k) (rowLines (rowList (seatRow k) [])) in

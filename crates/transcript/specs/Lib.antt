@@ -9,6 +9,7 @@ pub mod PieceLaws
 pub mod PrintLaws
 pub mod Printed
 pub mod RestLaws
+pub mod Rooms
 pub mod SentLaws
 pub mod StepLaws
 pub mod TextLaws

@@ -12,6 +12,7 @@ ghost use Rattle.votes.specs.Request.{rowList, rowsSent};
 ghost use Rattle.messages.specs.Lines.{line};
 ghost use Rattle.messages.specs.Writer.{writable};
 ghost use Rattle.transcript.specs.Printed.{decidedText, signed, sentText, rowLines, eventLine, SentWritable, RowWritable, sendsAsk};
+ghost use Rattle.transcript.specs.Rooms.{decidedRoom, lineRoom, eventLineRoom, rowsRoom};
 use entry::hex::DIGITS;
 use entry::hex::put_text;
 use entry::table::Entries;
@@ -45,8 +46,8 @@ fn put_number(s: &mut [u8], at: usize, v: u64) -> usize
 }
 
 fn put_decided(s: &mut [u8], at: usize, d: Decided) -> usize
-    requires { ⌜ at + 33 ≤ length (now s) ⌝ }
-    ensures { λ r. ⌜ (Puts (now (s .entry)) at (decidedText d ++ (tab ∷ [])) r (now (s .exit))) × (r ≤ at + 33) ⌝ }
+    requires { ⌜ at + decidedRoom ≤ length (now s) ⌝ }
+    ensures { λ r. ⌜ (Puts (now (s .entry)) at (decidedText d ++ (tab ∷ [])) r (now (s .exit))) × (r ≤ at + decidedRoom) ⌝ }
 {
     match d {
         Decided::Nothing => {
@@ -74,16 +75,16 @@ fn put_signed(s: &mut [u8], at: usize, m: i32) -> usize
 }
 
 fn put_message(s: &mut [u8], at: usize, m: Message) -> usize
-    requires { ⌜ (writable m ≡ true) × (at + 119 ≤ length (now s)) ⌝ }
-    ensures { λ r. ⌜ (Puts (now (s .entry)) at (line m) r (now (s .exit))) × (r ≤ at + 119) ⌝ }
+    requires { ⌜ (writable m ≡ true) × (at + lineRoom ≤ length (now s)) ⌝ }
+    ensures { λ r. ⌜ (Puts (now (s .entry)) at (line m) r (now (s .exit))) × (r ≤ at + lineRoom) ⌝ }
 {
     let w = write_line(&mut s[at..], m);
     at + w.length
 }
 
 fn put_sent(s: &mut [u8], at: usize, x: Sent) -> usize
-    requires { ⌜ SentWritable x × (at + 119 ≤ length (now s)) ⌝ }
-    ensures { λ r. ⌜ (Puts (now (s .entry)) at (sentText x) r (now (s .exit))) × (r ≤ at + 119) ⌝ }
+    requires { ⌜ SentWritable x × (at + lineRoom ≤ length (now s)) ⌝ }
+    ensures { λ r. ⌜ (Puts (now (s .entry)) at (sentText x) r (now (s .exit))) × (r ≤ at + lineRoom) ⌝ }
 {
     match x {
         Sent::Nothing => {
@@ -104,8 +105,8 @@ pub(crate) fn put_event(
     margin: i32,
     x: Sent,
 ) -> usize
-    requires { ⌜ SentWritable x × (at + 216 ≤ length (now s)) ⌝ }
-    ensures { λ r. ⌜ (Puts (now (s .entry)) at (eventLine k number d margin x) r (now (s .exit))) × (r ≤ at + 216) ⌝ }
+    requires { ⌜ SentWritable x × (at + eventLineRoom ≤ length (now s)) ⌝ }
+    ensures { λ r. ⌜ (Puts (now (s .entry)) at (eventLine k number d margin x) r (now (s .exit))) × (r ≤ at + eventLineRoom) ⌝ }
 {
     let a = put_number(s, at, k);
     let b = put_number(s, a, number as u64);
@@ -127,7 +128,7 @@ pub(crate) fn asks(x: Sent) -> bool
 }
 
 fn put_row(s: &mut [u8], at: usize, row: SeatRow) -> usize
-    requires { ⌜ RowWritable row × (at + 119 ≤ length (now s)) ⌝ }
+    requires { ⌜ RowWritable row × (at + lineRoom ≤ length (now s)) ⌝ }
     ensures { λ r. ⌜ Puts (now (s .entry)) at (rowLines (rowList row [])) r (now (s .exit)) ⌝ }
 {
     match row {
@@ -150,8 +151,8 @@ pub(crate) fn put_rows<'a>(
     f: u8,
     v: View,
 ) -> usize
-    requires { ⌜ (n ≤ 64) × (at + 5300 ≤ length (now s)) ⌝ }
-    ensures { λ r. ⌜ (Puts (now (s .entry)) at (rowLines (rowsSent n f v (tableOf filled (votesOf cast verified (now (entries .entry)) (now (masks .entry)) (now (views .entry)))))) r (now (s .exit))) × (r ≤ at + 5184) ⌝ }
+    requires { ⌜ (n ≤ 64) × (at + rowsRoom + lineRoom ≤ length (now s)) ⌝ }
+    ensures { λ r. ⌜ (Puts (now (s .entry)) at (rowLines (rowsSent n f v (tableOf filled (votesOf cast verified (now (entries .entry)) (now (masks .entry)) (now (views .entry)))))) r (now (s .exit))) × (r ≤ at + rowsRoom) ⌝ }
 {
     let end = mask::rows_of(n);
     let mut k: usize = 0;

@@ -1,19 +1,20 @@
 -- 01, "Examples at the edges": its entries and votes.
-use Prim.Native.Nat.{ℕ}
+use Prim.Native.Nat.{ℕ, _-_}
 use mathlib.Core.Bool.{true}
-use mathlib.Core.List.{List, [], _∷_}
+use mathlib.Core.List.{List, [], _∷_, _++_}
+use lib.ListN.{replicate}
 use Rattle.entry.specs.declared.Entry.{Entry}
-use Rattle.entry.specs.Entry.{ofWords}
+use Rattle.entry.specs.Entry.{serialLength, entryOf}
 use Rattle.votes.specs.declared.Vote.{Vote}
 use Rattle.votes.specs.declared.Row.{Row}
 use Rattle.votes.specs.Rows.{zeroVote}
 
 -- "Entries a < b": serials `A1` and `A2`, code 00000001.
 abbrev pub a : Entry
-a = ofWords 0x4131202020202020 0x2020202000000001
+a = entryOf (0x41 ∷ 0x31 ∷ replicate (serialLength - 2) 0x20 ++ (0 ∷ 0 ∷ 0 ∷ 1 ∷ []))
 
 abbrev pub b : Entry
-b = ofWords 0x4132202020202020 0x2020202000000001
+b = entryOf (0x41 ∷ 0x32 ∷ replicate (serialLength - 2) 0x20 ++ (0 ∷ 0 ∷ 0 ∷ 1 ∷ []))
 
 -- A vote for e in view u with certificate m. "`a1` is a vote for a in view 1".
 abbrev pub for : Entry → ℕ → ℕ → Vote

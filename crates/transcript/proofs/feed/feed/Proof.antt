@@ -7,6 +7,7 @@ use mir.Syntax.{w32}
 use mir.Val.{toZ, ofZ}
 use borrow.Author.Needs.{needs}
 use Rattle.text.specs.PutLaws.{puts-nothing}
+use Rattle.transcript.specs.Rooms.{rowsRoom, lineRoom}
 use Rattle.transcript.specs.TextLaws.{line-missing}
 use Rattle.transcript.proofs.Meeting.{made-writable, made-sized}
 use Rattle.transcript.proofs.Stepping.{waits}
@@ -130,7 +131,7 @@ put-rows-requires c κs =
     let then = c .before .before .before .before .before .before .before .before in
     let put = putOf (then .before) in
     let asks = sym (then .before .asks .ensures) ∙ then .if4 .taken in
-    let room : put .put-event .result + 5300 ≤ length (put .put-event .last .0) =
+    let room : put .put-event .result + rowsRoom + lineRoom ≤ length (put .put-event .last .0) =
     omega (arith, put .put-event .ensures, lineOf (eventOf (madeOf put)) .before .before .loop-test .taken) in
     (made-sized (made (madeOf put)) asks, room)
 

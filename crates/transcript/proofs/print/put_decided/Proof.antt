@@ -2,6 +2,7 @@ use mathlib.Core.List.{[], _∷_, _++_}
 use mathlib.Core.Path.{_≡_, refl, sym, ap}
 use native.Mathlib.Omega.{arith}
 use Rattle.text.specs.Fields.{tab}
+use Rattle.entry.specs.Hex.{entryDigits}
 use Rattle.entry.specs.HexLaws.{text-length}
 use Rattle.replica.specs.declared.Decided.{Decided}
 use Rattle.transcript.specs.Printed.{decidedText}
@@ -64,7 +65,7 @@ returns-2 c = let t = c .before .before in
     let x = t .before .before .before .before in
     let text = said (x .before .before .before .d .given .1) in
     let long = sym (text-length _) in
-    (byte-behind _ _ _ _ 32 _ _ _ _ (x .put-text .ensures) long (t .put-byte3 .ensures) refl text, omega arith)
+    (byte-behind _ _ _ _ entryDigits _ _ _ _ (x .put-text .ensures) long (t .put-byte3 .ensures) refl text, omega arith)
 
 pub put-decided-spec : {M : Type 1} → statement M
 put-decided-spec =

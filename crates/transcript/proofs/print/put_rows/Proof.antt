@@ -9,6 +9,7 @@ use Rattle.votes.specs.declared.VoteRows.{VoteRows}
 use Rattle.votes.specs.Request.{rowsSent}
 use Rattle.votes.specs.Rows.{votesOf, tableOf}
 use Rattle.transcript.specs.Printed.{RowWritable}
+use Rattle.transcript.specs.Rooms.{rowRoom}
 use Rattle.transcript.proofs.SentRows.{linesBelow, row-more, row-writable, rows-short}
 use borrow.Author.Needs.{needs}
 use Rattle.transcript.proofs.print.put_rows.Statement.{statement}
@@ -33,7 +34,7 @@ all c = c .rows-of .ensures ∙ ap (λ (b : Bool). cond b (c .before .before .ar
 
 -- What was put is short.
 short : (c : tie.At-loop Inv-loop μ-loop)
-    → (c .loop .k ≤ 64) × (c .loop .p ≤ c .before .before .before .args .at + 81 * c .loop .k)
+    → (c .loop .k ≤ 64) × (c .loop .p ≤ c .before .before .before .args .at + rowRoom * c .loop .k)
 short c =
     let s = c .before .before .before in
     let few : c .loop .k ≤ 64 = omega (arith, c .loop .inv .0, all (c .before), s .pre .0) in

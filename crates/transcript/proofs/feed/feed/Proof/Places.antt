@@ -13,6 +13,7 @@ use Rattle.text.specs.Put.{Puts}
 use Rattle.messages.specs.declared.read.Line.{Line}
 use Rattle.replica.specs.declared.Step.{Step}
 use Rattle.replica.specs.Steps.{stepOf, requestRows}
+use Rattle.transcript.specs.Rooms.{rowsRoom}
 use Rattle.transcript.specs.declared.State.{State}
 use Rattle.transcript.specs.declared.sort.Event.{Event}
 use Rattle.transcript.specs.Printed.{rowLines, printed, sendsAsk}
@@ -135,7 +136,7 @@ made c =
 -- The event was printed: the loop goes on behind its line, and behind the rows where a Q goes out.
 pub goes : (c : tie.After-put-event Inv-loop μ-loop) (asks : Bool) (r : ℕ) (after : List ℕ) → sendsAsk (madeOf c .match2 .sent) ≡ asks
     → Puts (c .put-event .last .0) (c .put-event .result) (cond asks (rowLines (requestRows (madeOf c .match2 .replica))) []) r after
-    → r ≤ c .put-event .result + 5184
+    → r ≤ c .put-event .result + rowsRoom
     → Going (first (loopOf (lineOf (eventOf (madeOf c))))) (input (loopOf (lineOf (eventOf (madeOf c)))))
     (memory (loopOf (lineOf (eventOf (madeOf c))))) (next c) (lineOf (eventOf (madeOf c)) .before .behind-line .result) r after
 goes c asks r after is rows short =

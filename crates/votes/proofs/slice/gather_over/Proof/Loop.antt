@@ -31,7 +31,7 @@ use types.Run.{look, look-raw, store, init, forget, stop, hop, fld, from, load, 
 use sound.WpLaws.{fmOf}
 use denote.RattleType.{RattleType}
 use denote.Laws.{Is, Tells, shows}
-use denote.Memory.{shares, pointee}
+use denote.Memory.{mem, shares, pointee}
 use denote.Ref.{now}
 use denote.Signature.{Slot, plain}
 use denote.Slice.{sliceTy, sliceVal}
@@ -71,6 +71,10 @@ one-more t rs i h = sym (ap (upto t rs) (add-one i) ∙ ap (gathered t) (take-su
 -- ---- the types of the locals
 abbrev R : RattleType
 R = row.the-row
+
+-- how many bytes a row takes
+abbrev rowSize : ℕ
+rowSize = mem R .size
 
 abbrev pub Q : RattleType
 Q = rows.the-row
@@ -171,7 +175,7 @@ module _ {M : Type 1} (𝓤 : URA M) (H : Heap 𝓤) (A : Atoms 𝓤) (W : Given
         assigns ! (bin ! (reads ! 10 refl) (lit ! tt) (record { fits = scaled })) (from ! (stop !)) (store ! 8 refl (tt, record { fits = scaled })) $
         assigns ! (bin ! (load ! (from ! (fld ! refl (stop !))) (look-in ! 14 (sub ! 0 refl (whole !)))) (reads ! 8 refl) tt) (from ! (stop !))
         (init ! 4 refl (tt, tt)) $
-        rewrite ! 4 (λ (k : ℕ). ‵ (fat fullShare tyPtr l₉ 0 (vptr b k))) (sym (place-is 40 o (i .0))) refl $
+        rewrite ! 4 (λ (k : ℕ). ‵ (fat fullShare tyPtr l₉ 0 (vptr b k))) (sym (place-is rowSize o (i .0))) refl $
         looks-slice ! tt R (Is R) (shows 𝓤 H A R) spelled told (LL.copy row.the-type row′.the-copy 𝓤 H A W) rs b o (λ s.
         elem-out ! R (Is R) (shows 𝓤 H A R) spelled told s rs (i .0) noRow b o below (λ r-is.
         -- [the row; what it owns; the others; what shuts; the fractured borrow; _10 at 5; …]
@@ -206,8 +210,7 @@ module _ {M : Type 1} (𝓤 : URA M) (H : Heap 𝓤) (A : Atoms 𝓤) (W : Given
         fits : i .0 + 1 < 2 ^ 64
         fits = let h = below in omega (arith, p .room .0)
 
-        -- a row takes 40 bytes
-        scaled : i .0 * 40 < 2 ^ 64
+        scaled : i .0 * rowSize < 2 ^ 64
         scaled = let h = below in omega (arith, p .room .1)
     turns i false over =
         assigns ! (of-opd ! (load ! (from ! (fld ! refl (stop !))) (look-in ! 14 (sub ! 1 refl (whole !))))) (from ! (stop !))
