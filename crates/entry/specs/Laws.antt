@@ -3,12 +3,10 @@ use Prim.Native.Nat.{ℕ, _^_, _<_}
 use mathlib.Core.Path.{_≡_, refl, sym, ap, ap₂, _∙_, subst}
 use mathlib.Core.Bool.{Bool, true, false, not, _&&_, _||_}
 use mathlib.Core.List.{List, [], _∷_, _++_}
-use mathlib.Core.Logic.{_⊎_, inl, inr}
 use native.Mathlib.Omega.{arith}
-use lib.Dec.{T, eqb, ltb, eqb→eq, ltb→lt, not-T, T-not}
+use lib.Dec.{T, eqb, ltb, not-T, T-not}
 use lib.ListN.{length, take, drop, replicate, length-take, length-drop, take-append-drop}
-use borrow.Author.Tests.{eqb-true, eq-eqb, ltb-true, lt-ltb, le-ltb}
-use Rattle.base.specs.Tests.{and-l, and-r, and-i, and-true, and-alone, is-true, true-is, same-test}
+use Rattle.base.specs.Tests.{and-l, and-r, and-i, and-alone, is-true, same-test}
 use Rattle.entry.specs.declared.Entry.{Entry}
 use Rattle.entry.specs.Entry.{all, wordBytes, bytesOf, serialLength, serialOf, codeOf, serial, wellFormed, sameBytes, same, less}
 use Rattle.entry.specs.Entry.{ofWords, entryOf}

@@ -1,7 +1,7 @@
 -- What the number 0 tells: setup would take n and f.
 use mathlib.Core.Path.{_≡_}
 use mathlib.Core.Bool.{not}
-use mathlib.Core.List.{_∷_, _++_}
+use mathlib.Core.List.{_∷_}
 use lib.Dec.{leb}
 use Rattle.base.specs.Refusal.{Refusals}
 use Rattle.base.specs.RefusalLaws.{front-none}

@@ -5,9 +5,7 @@ use mathlib.Core.List.{List, _++_}
 use lib.Dec.{T}
 use Rattle.base.specs.Refusal.{Refusals}
 use Rattle.base.specs.RefusalLaws.{ascending, Applies, first-lowest, first-none}
-use Rattle.entry.specs.declared.Entry.{Entry}
 use Rattle.seats.specs.declared.View.{View}
-use Rattle.votes.specs.declared.Vote.{Vote}
 use Rattle.votes.specs.declared.Row.{Row}
 use Rattle.votes.specs.Request.{rowRefusals}
 use Rattle.messages.specs.declared.Assent.{Assent}

@@ -1,6 +1,6 @@
 -- 01, "Events": what each event makes of a replica.
 use Prim.Native.Nat.{ℕ}
-use mathlib.Core.Bool.{Bool, true, false, not, _&&_, cond}
+use mathlib.Core.Bool.{Bool, true, not, _&&_, cond}
 use mathlib.Core.List.{List, _++_}
 use lib.Dec.{eqb, leb}
 use Rattle.base.specs.Refusal.{Refusals, first}

@@ -8,15 +8,6 @@ use Rattle.trace.specs.Inside.{Inside}
 use borrow.Author.Needs.{needs}
 use Rattle.trace.proofs.go_on.Statement.{statement}
 use Rattle.trace.proofs.go_on.Tie as tie
-use Rattle.trace.proofs.go_on.Reads as reads
-use Rattle.trace.proofs.go_on.Lts as lts
-use Rattle.trace.proofs.behind.Reads as behind-reads
-use Rattle.trace.proofs.cut_if.Reads as cut-if-reads
-use Rattle.trace.proofs.feed_window.Reads as feed-window-reads
-use Rattle.trace.proofs.kept_if.Reads as kept-if-reads
-use Rattle.trace.proofs.refill.Reads as refill-reads
-use Rattle.trace.proofs.write_last.Reads as write-last-reads
-use Rattle.trace.proofs.write_front.Reads as write-front-reads
 
 -- A window that ends where another ends lies where that one lies.
 ends-alike :

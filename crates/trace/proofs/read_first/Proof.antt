@@ -5,11 +5,6 @@ use lib.Seq.{length-take-le}
 use borrow.Author.Needs.{needs}
 use Rattle.trace.proofs.read_first.Statement.{statement}
 use Rattle.trace.proofs.read_first.Tie as tie
-use Rattle.trace.proofs.read_first.Reads as reads
-use Rattle.trace.proofs.read_first.Lts as lts
-use Rattle.trace.proofs.least.Reads as least-reads
-use Rattle.trace.proofs.read_more.Reads as read-more-reads
-use Rattle.transcript.proofs.lines.end_of_line.Reads as end-of-line-reads
 
 abbrev Inv-loop : tie.InvT-loop
 Inv-loop buf₀ end₀ turns₀ buf end turns = (end ≤ length buf) × (length buf ≡ length buf₀)

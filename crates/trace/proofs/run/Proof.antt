@@ -4,13 +4,6 @@ use lib.Seq.{length-take-le}
 use borrow.Author.Needs.{needs}
 use Rattle.trace.proofs.run.Statement.{statement}
 use Rattle.trace.proofs.run.Tie as tie
-use Rattle.trace.proofs.run.Reads as reads
-use Rattle.trace.proofs.run.Lts as lts
-use Rattle.trace.proofs.go_on.Reads as go-on-reads
-use Rattle.trace.proofs.read_first.Reads as read-first-reads
-use Rattle.trace.proofs.write_front.Reads as write-front-reads
-use Rattle.transcript.proofs.begin.begin.Reads as begin-reads
-use Rattle.transcript.proofs.begin.put_refusal.Reads as put-refusal-reads
 
 read-first-requires : tie.Need-read-first-requires
 read-first-requires c κs = search needs

@@ -4,8 +4,6 @@ use lib.ListN.{length}
 use borrow.Author.Needs.{needs}
 use Rattle.trace.proofs.shift.Statement.{statement}
 use Rattle.trace.proofs.shift.Tie as tie
-use Rattle.trace.proofs.shift.Reads as reads
-use Rattle.trace.proofs.shift.Lts as lts
 
 abbrev Inv-loop : tie.InvT-loop
 Inv-loop buf₀ from end i₀ buf i = (from ≤ i) × (from ≤ end) × (end ≤ length buf₀) × (length buf ≡ length buf₀)

@@ -3,10 +3,6 @@ use lib.Seq.{length-take-le}
 use borrow.Author.Needs.{needs}
 use Rattle.trace.proofs.write_front.Statement.{statement}
 use Rattle.trace.proofs.write_front.Tie as tie
-use Rattle.trace.proofs.write_front.Reads as reads
-use Rattle.trace.proofs.write_front.Lts as lts
-use Rattle.io.proofs.write_all.Reads as write-all-reads
-use Rattle.trace.proofs.least.Reads as least-reads
 
 least-requires : tie.Need-least-requires
 least-requires c κs = search needs

@@ -7,7 +7,6 @@ use borrow.Author.Tests.{ne-eqb}
 use Rattle.entry.specs.declared.Entry.{Entry}
 use Rattle.votes.specs.declared.Vote.{Vote}
 use Rattle.messages.specs.declared.Head.{Head}
-use Rattle.messages.specs.declared.Message.{Message}
 use Rattle.messages.specs.declared.Message.the-variants.{Start, Enter, Propose, Acknowledge, Cast, Ask, Confirm}
 use Rattle.messages.specs.Lines.{enterKind, proposeKind, acknowledgeKind, castKind, askKind, confirmKind}
 use Rattle.station.specs.Words.{headOf, messageEntry, messageVote, messageMask, messageCount, messageOf}

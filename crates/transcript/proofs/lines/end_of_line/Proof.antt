@@ -6,9 +6,6 @@ use borrow.Author.Needs.{needs}
 use Rattle.transcript.specs.TextLaws.{line-over}
 use Rattle.transcript.proofs.lines.end_of_line.Statement.{statement}
 use Rattle.transcript.proofs.lines.end_of_line.Tie as tie
-use Rattle.transcript.proofs.lines.end_of_line.Reads as reads
-use Rattle.transcript.proofs.lines.end_of_line.Lts as lts
-use Rattle.transcript.proofs.lines.behind_line.Reads as behind-line-reads
 
 returns : tie.Need-returns
 returns c =

@@ -16,7 +16,7 @@ use Rattle.replica.specs.Steps.{stepOf, requestRows}
 use Rattle.transcript.specs.Rooms.{rowsRoom}
 use Rattle.transcript.specs.declared.State.{State}
 use Rattle.transcript.specs.declared.sort.Event.{Event}
-use Rattle.transcript.specs.Printed.{rowLines, printed, sendsAsk}
+use Rattle.transcript.specs.Printed.{rowLines, sendsAsk}
 use Rattle.transcript.specs.Feeding.{sorted, sortIn}
 use Rattle.transcript.specs.TextLaws.{LineAt, line-found}
 use Rattle.transcript.proofs.Meeting.{Taken, asked-taken, alone-taken}
