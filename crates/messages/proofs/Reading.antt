@@ -23,7 +23,7 @@ use Rattle.messages.specs.declared.read.AssentAt.{AssentAt}
 use Rattle.messages.specs.Lines.{dash, topSeat, topView, topCount}
 use Rattle.messages.specs.Lines.{startKind, enterKind, proposeKind, acknowledgeKind, castKind, askKind, confirmKind}
 use Rattle.messages.specs.Reader.{markOf, numberAt, hexAt, letterAt, entryAt, headAt, got, enterAt, assentAt, proposeAt}
-use Rattle.messages.specs.Reader.{askAt, rowOf, nilAt, voteAt, castAt, messageAt}
+use Rattle.messages.specs.Reader.{askAt, rowWith, nilAt, voteAt, castAt, messageAt}
 
 module _ (t : List ℕ) (e p : ℕ) (f : List ℕ) (a : p ≡ placeBehind t e) (b : f ≡ fieldAt t p) where
   -- The field at the place behind a tab is the field behind it.
@@ -80,7 +80,7 @@ module _ (t : List ℕ) (e : ℕ) (h : HeadAt) (x : EntryAt) (a : h ≡ headAt t
 
 -- ---- votes
 pub nil-is : (t : List ℕ) (h : HeadAt) (e : ℕ) (o : Bool) (z : Entry) (w : Row) (r : Line) → z ≡ zeroEntry → o ≡ over t e
-    → w ≡ rowOf (h .head) (record { entry = z; mask = 0; view = record { 0 = 0 }; cast = false; verified = false })
+    → w ≡ rowWith (h .head) (record { entry = z; mask = 0; view = record { 0 = 0 }; cast = false; verified = false })
     → r ≡ got (h .good && o) (Cast w) → r ≡ nilAt t h e
 unfolding nilAt
 nil-is t h e o z w r a b c q = q ∙ simp (c, b, a)
@@ -89,7 +89,7 @@ pub vote-is : (t : List ℕ) (h : HeadAt) (u : NumberAt) (x : EntryAt) (c : Numb
     (r : Line)
     → u ≡ numberAt t (h .end) topView → x ≡ entryAt t (u .end) → c ≡ hexAt t (x .end) → m ≡ letterAt t (c .end)
     → k ≡ markOf (m .letter) → o ≡ over t (m .end)
-    → w ≡ rowOf (h .head) (record {
+    → w ≡ rowWith (h .head) (record {
       entry = x .field .entry;
       mask = c .number .value;
       view = record { 0 = u .number .value };

@@ -21,7 +21,7 @@ use Rattle.messages.specs.declared.read.Line.the-variants.{Read}
 use Rattle.messages.specs.Lines.{dash, mark, view, head, vote, rowHead, kind, fields, line, IsLine, tidyVote, tidy}
 use Rattle.messages.specs.Lines.{topSeat, topView, topCount, HeadWithin, CastWithin, Fits, IsMask}
 use Rattle.messages.specs.Reader.{headAt, enterAt, assentAt, proposeAt, askAt}
-use Rattle.messages.specs.Reader.{rowOf, nilAt, voteAt, castAt, messageAt, readLine}
+use Rattle.messages.specs.Reader.{rowWith, nilAt, voteAt, castAt, messageAt, readLine}
 use Rattle.messages.specs.AtLaws.{number-back, hex-back, entry-back, mark-back, dash-back, number-no-dash}
 
 module _ (t : List ℕ) (e : ℕ) where
@@ -73,7 +73,7 @@ module _ (t : List ℕ) (e : ℕ) where
   -- A vote that is nil, and one that is cast.
   cast-back : (h : Head) (x : Vote) (cast : Bool) → x .cast ≡ cast → HeadWithin topSeat h → CastWithin cast x
       → Ahead t e (head h (vote cast x))
-      → castAt t e ≡ Read (Cast (rowOf h (tidyVote cast x)))
+      → castAt t e ≡ Read (Cast (rowWith h (tidyVote cast x)))
   unfolding castAt nilAt voteAt
   cast-back h x false c f g at =
       let y = head-back h ((dash ∷ []) ∷ []) f at in

@@ -21,7 +21,7 @@ use Rattle.messages.specs.Lines.{dash, mark, head, kind, fields, IsLine,
 use Rattle.messages.specs.Lines.{startKind, enterKind, proposeKind, acknowledgeKind, castKind, askKind, confirmKind}
 use Rattle.messages.specs.Lines.{topSeat, topView, topCount, HeadWithin, Fits}
 use Rattle.messages.specs.Reader.{numberAt, letterAt, entryAt, hexAt, markOf, headAt, got, enterAt, assentAt, proposeAt}
-use Rattle.messages.specs.Reader.{askAt, rowOf, nilAt, voteAt, castAt, messageAt, readLine}
+use Rattle.messages.specs.Reader.{askAt, rowWith, nilAt, voteAt, castAt, messageAt, readLine}
 use Rattle.messages.specs.ReadBack.{kind-letter}
 use Rattle.messages.specs.AtLaws.{number-written, hex-written, entry-written, letter-written, mark-written}
 
@@ -116,7 +116,7 @@ module _ (t : List ℕ) (e : ℕ) where
   nil-exact d =
       let h = headAt t e in
       let end = endBehind t (h .end) in
-      got-exact (h .good && over t end) (Cast (rowOf (h .head) nilVote)) (λ g.
+      got-exact (h .good && over t end) (Cast (rowWith (h .head) nilVote)) (λ g.
       let both = and-true (h .good) (over t end) g in
       let d-written = letter-written t (h .end) [] dash (lit< tt) d (over-exact t end (both .1)) in
       let h-written = head-exact ((dash ∷ []) ∷ []) (both .0) d-written in
@@ -139,7 +139,7 @@ module _ (t : List ℕ) (e : ℕ) where
         cast = true;
         verified = m .verified;
       } in
-      got-exact good (Cast (rowOf (h .head) cast)) (λ g.
+      got-exact good (Cast (rowWith (h .head) cast)) (λ g.
       let g₅ = and-true ((((h .good && u .number .good) && x .field .good) && c .number .good) && m .good) (over t end) g in
       let g₄ = and-true (((h .good && u .number .good) && x .field .good) && c .number .good) (m .good) (g₅ .0) in
       let g₃ = and-true ((h .good && u .number .good) && x .field .good) (c .number .good) (g₄ .0) in

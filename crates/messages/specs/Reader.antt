@@ -85,11 +85,11 @@ askAt t e =
     got (((h .good && x .field .good) && c .number .good) && over t (c .end))
     (Ask (record { head = h .head; entry = x .field .entry; count = c .number .value }))
 
-abbrev pub rowOf : Head → Vote → Row
-rowOf h x = record { seat = h .seat; verified = h .verified; view = h .view; vote = x }
+abbrev pub rowWith : Head → Vote → Row
+rowWith h x = record { seat = h .seat; verified = h .verified; view = h .view; vote = x }
 
 unfoldable pub nilAt : List ℕ → HeadAt → ℕ → Line
-nilAt t h e = got (h .good && over t e) (Cast (rowOf (h .head) nilVote))
+nilAt t h e = got (h .good && over t e) (Cast (rowWith (h .head) nilVote))
 
 unfoldable pub voteAt : List ℕ → HeadAt → Line
 voteAt t h =
@@ -99,7 +99,7 @@ voteAt t h =
     let m = letterAt t (c .end) in
     let k = markOf (m .letter) in
     got (((((h .good && u .number .good) && x .field .good) && c .number .good) && k .good) && over t (m .end))
-    (Cast (rowOf (h .head) (record {
+    (Cast (rowWith (h .head) (record {
       entry = x .field .entry;
       mask = c .number .value;
       view = record { 0 = u .number .value };

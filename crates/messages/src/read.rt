@@ -3,7 +3,7 @@
 ghost use mathlib.Core.Path.{_≡_};
 ghost use Prim.Native.Nat.{_≤_};
 ghost use Rattle.messages.specs.Reader.{markOf, numberAt, hexAt, letterAt, entryAt, headAt, got, enterAt, assentAt};
-ghost use Rattle.messages.specs.Reader.{proposeAt, askAt, rowOf, nilAt, voteAt, castAt, messageAt, readLine};
+ghost use Rattle.messages.specs.Reader.{proposeAt, askAt, rowWith, nilAt, voteAt, castAt, messageAt, readLine};
 use crate::ACKNOWLEDGE;
 use crate::ASK;
 use crate::Assent;
@@ -229,8 +229,8 @@ fn ask_at(t: &[u8], end: usize) -> Line
     )
 }
 
-fn row_of(h: Head, vote: Vote) -> Row
-    ensures { λ r. ⌜ r ≡ rowOf h vote ⌝ }
+fn row_with(h: Head, vote: Vote) -> Row
+    ensures { λ r. ⌜ r ≡ rowWith h vote ⌝ }
 {
     let seat = h.seat;
     let view = h.view;
@@ -254,7 +254,7 @@ fn nil_at(t: &[u8], h: HeadAt, end: usize) -> Line
         cast: false,
         verified: false,
     };
-    got(h.good & over(t, end), Message::Cast(row_of(head, nil)))
+    got(h.good & over(t, end), Message::Cast(row_with(head, nil)))
 }
 
 // A vote that is not nil: u, entry, mask and mark.
@@ -280,7 +280,7 @@ fn vote_at(t: &[u8], h: HeadAt) -> Line
     };
     got(
         h.good & view.good & x.good & mask.good & mark.good & over(t, m.end),
-        Message::Cast(row_of(head, vote)),
+        Message::Cast(row_with(head, vote)),
     )
 }
 

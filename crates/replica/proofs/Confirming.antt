@@ -23,7 +23,7 @@ use Rattle.replica.specs.declared.Sent.{Sent}
 use Rattle.replica.specs.declared.Step.{Step}
 use Rattle.replica.specs.Refusals.{proposed, confirmRefusals}
 use Rattle.replica.specs.Replica.{standing, ownRefusals, numberFor, withStage, withLead}
-use Rattle.replica.specs.Steps.{stepOf, refused, headOf, proposalOf, confirmedBy, confirmed, confirmStep}
+use Rattle.replica.specs.Steps.{stepOf, refused, headOf, proposalOf, confirmedBy, certified, confirmStep}
 use Rattle.replica.proofs.Answered.{number-is, answered-is}
 use Rattle.replica.proofs.Taken.{number-allowed}
 
@@ -71,8 +71,8 @@ module _ (s : Replica) (c : Assent) where
     abbrev enough : Bool
     enough = eqb number 0 && leb (signers (s .f)) (seatsIn counted)
 
-    taken : eqb number 0 ≡ true → made number written counted enough ≡ confirmed (confirmedBy s c)
-    unfolding confirmed
+    taken : eqb number 0 ≡ true → made number written counted enough ≡ certified (confirmedBy s c)
+    unfolding certified
     taken t =
         let z : number ≡ 0 = eqb-true number 0 t in
         let w : written ≡ joined = ap (withSeat (s .confirmed)) (ep ∙ ap (λ b. cond b (c .head .seat .0) 64) t) in
@@ -98,7 +98,7 @@ module _ (s : Replica) (c : Assent) where
 
     made-is : made number written counted enough ≡ confirmStep s c
     unfolding confirmStep
-    made-is = answered-is s refusals (confirmed (confirmedBy s c)) (made number written counted enough) number en taken kept
+    made-is = answered-is s refusals (certified (confirmedBy s c)) (made number written counted enough) number en taken kept
 
   pub confirm-is : (setup k number place m below q stage : ℕ) (told : Proposal) (sent : Sent) → setup ≡ first (ownRefusals s) → k ≡ first refusals
       → number ≡ cond (eqb setup 0) k setup → place ≡ cond (eqb number 0) (c .head .seat .0) 64 → m ≡ withSeat (s .confirmed) place

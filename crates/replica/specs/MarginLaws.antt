@@ -30,7 +30,7 @@ use Rattle.replica.specs.Refusals.{proposed, setupRefusals}
 use Rattle.replica.specs.Replica.{fresh, blank, numberFor, marginOf, withStage}
 use Rattle.replica.specs.Steps.{refused, answered, startStep, enterStep, proposeStep, acknowledgeStep, castStep, askStep, askWith, confirmStep}
 use Rattle.replica.specs.Steps.{quiet, saying, decides, decidedBy, acknowledged, rowed, chooses, selectionOf, collected, filledBy}
-use Rattle.replica.specs.Steps.{confirmed, confirmedBy, confirmers, proposalOf}
+use Rattle.replica.specs.Steps.{certified, confirmedBy, confirmers, proposalOf}
 
 -- ---- the first replicas
 
@@ -102,7 +102,7 @@ unfolding askWith
 ask-with-margin s q t = margin-stays s _ _ refl
 
 pub confirm-margin : (s : Replica) (c : Assent) → marginOf (confirmStep s c .next) ≡ marginOf s
-unfolding confirmStep confirmed marginOf
+unfolding confirmStep certified marginOf
 confirm-margin s c =
     let t = confirmedBy s c in
     let proposes = saying (withStage t proposed) (proposalOf t (s .view) (s .chosen) (confirmers t)) in

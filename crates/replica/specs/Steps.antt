@@ -185,14 +185,14 @@ abbrev pub confirmers : Replica → ℕ
 confirmers s = mask (bit (s .confirmed)) (s .n)
 
 -- "At f + 1 or more senders the leader sends P with their mask; stage proposed."
-unfoldable pub confirmed : Replica → Step
-confirmed s =
+unfoldable pub certified : Replica → Step
+certified s =
     cond (leb (signers (s .f)) (count (bit (s .confirmed)) (s .n)))
     (saying (withStage s proposed) (proposalOf s (s .view) (s .chosen) (confirmers s)))
     (quiet s)
 
 unfoldable pub confirmStep : Replica → Assent → Step
-confirmStep s c = answered s (confirmRefusals (standing s) (s .confirmed) (s .chosen) c) (confirmed (confirmedBy s c))
+confirmStep s c = answered s (confirmRefusals (standing s) (s .confirmed) (s .chosen) c) (certified (confirmedBy s c))
 
 -- ---- one event, whichever it is. The rows are a Q's: beside another message they do not count.
 abbrev pub step : Replica → Message → List Row → Step

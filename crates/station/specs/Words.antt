@@ -108,8 +108,8 @@ messageCount m = byteOf (word m 6)
 abbrev pub messageVote : List ℕ → Vote
 messageVote m = voteOf (word m 7) (word m 8) (word m 9) (word m 10) (word m 11) (word m 12)
 
-abbrev pub rowOf : List ℕ → Row
-rowOf m = record { seat = headOf m .seat; verified = headOf m .verified; view = headOf m .view; vote = messageVote m }
+abbrev pub messageRow : List ℕ → Row
+messageRow m = record { seat = headOf m .seat; verified = headOf m .verified; view = headOf m .view; vote = messageVote m }
 
 -- "the letter of its line; any other is an S"
 unfoldable pub messageOf : ℕ → List ℕ → Message
@@ -119,6 +119,6 @@ messageOf kind m =
     cond (eqb kind enterKind) (Enter (h .view))
     (cond (eqb kind proposeKind) (Propose (record { head = h; entry = e; mask = messageMask m }))
     (cond (eqb kind acknowledgeKind) (Acknowledge (record { head = h; entry = e }))
-    (cond (eqb kind castKind) (Cast (rowOf m))
+    (cond (eqb kind castKind) (Cast (messageRow m))
     (cond (eqb kind askKind) (Ask (record { head = h; entry = e; count = messageCount m }))
     (cond (eqb kind confirmKind) (Confirm (record { head = h; entry = e })) Start)))))

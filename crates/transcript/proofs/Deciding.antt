@@ -19,7 +19,7 @@ use Rattle.replica.specs.declared.Sent.{Sent}
 use Rattle.replica.specs.declared.Step.{Step}
 use Rattle.replica.specs.Replica.{numberFor}
 use Rattle.replica.specs.Steps.{refused, answered, startStep, enterStep, proposeStep, acknowledgeStep, castStep, askWith, confirmStep}
-use Rattle.replica.specs.Steps.{decides, acknowledged, rowed, chooses, selectionOf, collected, filledBy, confirmed, confirmedBy}
+use Rattle.replica.specs.Steps.{decides, acknowledged, rowed, chooses, selectionOf, collected, filledBy, certified, confirmedBy}
 use Rattle.transcript.specs.Feeding.{heard, isAcknowledge}
 
 -- What one of two steps has where both have it.
@@ -40,8 +40,8 @@ chooses-undecided s Choice.Wait = refl
 chooses-undecided s Choice.Free = refl
 chooses-undecided s (Choice.Forced e) = refl
 
-confirmed-undecided : (s : Replica) → confirmed s .decided ≡ Decided.Nothing
-unfolding confirmed
+confirmed-undecided : (s : Replica) → certified s .decided ≡ Decided.Nothing
+unfolding certified
 confirmed-undecided s = either said Decided.Nothing (leb (signers (s .f)) (count (bit (s .confirmed)) (s .n))) _ _ refl refl
 
 pub heard-undecided : (s : Replica) (m : Message) → isAcknowledge m ≡ false → heard s m .decided ≡ Decided.Nothing

@@ -14,15 +14,15 @@ abbrev pub Happening : Type 0
 Happening = Option (Message × List Row)
 
 -- A V line is a row.
-abbrev pub rowOf : Line → Option Row
-rowOf (Read (Cast r)) = some r
-rowOf (Read Start) = none
-rowOf (Read (Enter v)) = none
-rowOf (Read (Propose p)) = none
-rowOf (Read (Acknowledge a)) = none
-rowOf (Read (Ask q)) = none
-rowOf (Read (Confirm c)) = none
-rowOf Malformed = none
+abbrev pub asRow : Line → Option Row
+asRow (Read (Cast r)) = some r
+asRow (Read Start) = none
+asRow (Read (Enter v)) = none
+asRow (Read (Propose p)) = none
+asRow (Read (Acknowledge a)) = none
+asRow (Read (Ask q)) = none
+asRow (Read (Confirm c)) = none
+asRow Malformed = none
 
 abbrev pub before : Option Row → Option (List Row) → Option (List Row)
 before (some r) (some rs) = some (r ∷ rs)
@@ -33,7 +33,7 @@ before none rs = none
 unfoldable pub rowsAt : ℕ → List (List ℕ) → Option (List Row)
 rowsAt zero ls = some []
 rowsAt (suc k) [] = none
-rowsAt (suc k) (l ∷ ls) = before (rowOf (readLine l)) (rowsAt k ls)
+rowsAt (suc k) (l ∷ ls) = before (asRow (readLine l)) (rowsAt k ls)
 
 abbrev pub beside : Message → Option (List Row) → Happening
 beside m none = none

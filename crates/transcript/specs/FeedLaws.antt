@@ -25,7 +25,7 @@ use Rattle.replica.specs.Steps.{refused, askStep, askWith}
 use Rattle.transcript.specs.declared.State.{State}
 use Rattle.transcript.specs.declared.sort.Event.{Event}
 use Rattle.transcript.specs.declared.sort.Sorted.{Sorted}
-use Rattle.transcript.specs.Events.{Happening, rowOf, before, rowsAt, beside, happening, rowsUsed, happenings}
+use Rattle.transcript.specs.Events.{Happening, asRow, before, rowsAt, beside, happening, rowsUsed, happenings}
 use Rattle.transcript.specs.Printed.{printed}
 use Rattle.transcript.specs.Transcript.{stepFor, toldOf}
 use Rattle.transcript.specs.Feeding.{readUnless, sortedAs, spoiledRow, rowIn, sortedRow, sortedLine, sorted, heard, heardAs}
@@ -42,7 +42,7 @@ abbrev rowOrNone : Option Row → ℕ → Sorted
 rowOrNone (some r) left = sortedAs (Event.Row r) left false
 rowOrNone none left = spoiledRow left
 
-row-in : (l : Line) (left : ℕ) → rowIn l left ≡ rowOrNone (rowOf l) left
+row-in : (l : Line) (left : ℕ) → rowIn l left ≡ rowOrNone (asRow l) left
 row-in (Read (Cast r)) left = refl
 row-in (Read Start) left = refl
 row-in (Read (Enter v)) left = refl
@@ -223,7 +223,7 @@ fed-more l ls fed = record {
       let st = at k (marginOf s) s (suc j) false q (asked s q rs) in
       awaited st l ls j refl refl
       ∙ ap (λ (x : Sorted). after st x ls) (row-in (readLine l) j)
-      ∙ rows-go-on ls fed k s (omega arith) (suc j) j q rs (rowOf (readLine l));
+      ∙ rows-go-on ls fed k s (omega arith) (suc j) j q rs (asRow (readLine l));
   spoilt = λ k s j q rows small.
       awaited (at k (marginOf s) s (suc j) true q rows) l ls j refl refl
       ∙ spoils ls fed k s (omega arith) (suc j) j true q rows;

@@ -33,7 +33,7 @@ use Rattle.replica.specs.declared.Step.{Step}
 use Rattle.replica.specs.Refusals.{proposed}
 use Rattle.replica.specs.Replica.{numberFor, withStage, withDecision}
 use Rattle.replica.specs.Steps.{stepOf, refused, answered, saying, proposalOf, decides, acknowledged, rowed, voted, filledBy, asks, chooses}
-use Rattle.replica.specs.Steps.{selectionOf, collected, confirming, confirmedBy, confirmers, confirmed}
+use Rattle.replica.specs.Steps.{selectionOf, collected, confirming, confirmedBy, confirmers, certified}
 use Rattle.replica.specs.Steps.{startStep, enterStep, proposeStep, acknowledgeStep, castStep, askStep, askWith, confirmStep}
 use Rattle.transcript.specs.declared.sort.Event.{Event}
 use Rattle.transcript.specs.Events.{Happening}
@@ -102,8 +102,8 @@ chooses-sendable s Choice.Wait h = silent 0 s Decided.Nothing
 chooses-sendable s Choice.Free h = asks-sendable s (s .own) h
 chooses-sendable s (Choice.Forced e) h = asks-sendable s e h
 
-confirmed-sendable : (s : Replica) → Small s → Sendable (confirmed s)
-unfolding confirmed writable
+confirmed-sendable : (s : Replica) → Small s → Sendable (certified s)
+unfolding certified writable
 confirmed-sendable s h =
     either (leb (signers (s .f)) (count (bit (s .confirmed)) (s .n))) _ _
     (spoken (withStage s proposed) (proposalOf s (s .view) (s .chosen) (confirmers s)) refl (h .0))

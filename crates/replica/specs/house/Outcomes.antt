@@ -35,7 +35,7 @@ use Rattle.replica.specs.Refusals.{collecting, asking, proposed, isView,
 use Rattle.replica.specs.Refusals.{acknowledgeRefusals, castRefusals, askRefusals, confirmRefusals}
 use Rattle.replica.specs.Replica.{standing, ownRefusals, numberFor, withStage, withVote}
 use Rattle.replica.specs.Steps.{refused, answered, quiet, saying, assentOf, proposalOf, entered, ballot, voteFor, rowed, decides, decidedBy}
-use Rattle.replica.specs.Steps.{filledBy, asks, chooses, selectionOf, confirming, confirmedBy, confirmers, acknowledged, collected, confirmed}
+use Rattle.replica.specs.Steps.{filledBy, asks, chooses, selectionOf, confirming, confirmedBy, confirmers, acknowledged, collected, certified}
 use Rattle.replica.specs.Steps.{voted, startStep, enterStep, proposeStep, acknowledgeStep, castStep, askStep, confirmStep, step}
 
 -- ---- refused or taken
@@ -105,7 +105,7 @@ by-test P false t u h k = k
 -- Every step is one of them: a claim is shown of all steps by showing it of each.
 module _ (s : Replica) (rows : List Row) where
   pub outcome : (m : Message) → Outcome s rows m (step s m rows)
-  unfolding startStep enterStep proposeStep acknowledgeStep acknowledged castStep collected askStep confirmStep confirmed
+  unfolding startStep enterStep proposeStep acknowledgeStep acknowledged castStep collected askStep confirmStep certified
   outcome Start = by-answer (Outcome s rows _) s _ _ tt refuse start
   outcome (Enter v) = by-answer (Outcome s rows _) s _ _ tt refuse (enter v)
   outcome (Propose p) = by-answer (Outcome s rows _) s _ _ tt refuse (accept p)

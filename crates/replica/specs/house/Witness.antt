@@ -30,7 +30,7 @@ use Rattle.messages.specs.declared.Message.the-variants.{Start, Enter, Propose,
 use Rattle.replica.specs.Replica.{numberFor}
 use Rattle.replica.specs.Steps as S
 use Rattle.replica.specs.Steps.{answered, setupStep, startStep, enterStep, proposeStep, decides, acknowledged, acknowledgeStep}
-use Rattle.replica.specs.Steps.{selectionOf, castStep, askStep, confirmed, confirmStep}
+use Rattle.replica.specs.Steps.{selectionOf, castStep, askStep, certified, confirmStep}
 use Rattle.replica.specs.house.Claims.{acknowledges, confirms}
 use Rattle.replica.specs.house.Runs.{Member, Members, Among, sentBy, Said, Reported, Setting, Correct, Run}
 use Rattle.replica.specs.house.Happenings.{Happening, begin, hand, house, isRun}
@@ -192,7 +192,7 @@ unfolding wellFormed same less entryAt withEntry count highest mostFaulty bit se
     viewAt withView rowOf withRow shares sharing
     valid smallest topView twoAt rowsFor afterTwo atTop selection voteAt hasRow withVote sound rowAt rowSent rowsSent
     numberFor answered setupStep startStep enterStep proposeStep decides acknowledged acknowledgeStep selectionOf S.collected castStep
-    askStep confirmed confirmStep
+    askStep certified confirmStep
 witness = (
   record {
     setting = record { allowed = refl; few = few .0 };

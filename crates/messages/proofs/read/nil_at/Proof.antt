@@ -9,8 +9,8 @@ zero-requires c κs = search needs
 over-requires : tie.Need-over-requires
 over-requires c κs = search needs
 
-row-of-requires : tie.Need-row-of-requires
-row-of-requires c κs = search needs
+row-with-requires : tie.Need-row-with-requires
+row-with-requires c κs = search needs
 
 got-requires : tie.Need-got-requires
 got-requires c κs = search needs
@@ -19,7 +19,7 @@ returns : tie.Need-returns
 returns c =
     let k = c .before .before .before in
     nil-is _ (k .before .before .before .before .args .h) _ _ _ _ _ (k .before .zero .ensures) (k .over .ensures)
-    (c .before .row-of .ensures) (c .got .ensures)
+    (c .before .row-with .ensures) (c .got .ensures)
 
 pub nil-at-spec : {M : Type 1} → statement M
-nil-at-spec = tie.close (tie.spec zero-requires over-requires row-of-requires got-requires returns)
+nil-at-spec = tie.close (tie.spec zero-requires over-requires row-with-requires got-requires returns)

@@ -24,8 +24,8 @@ cast-t14 c = search needs
 over-requires : tie.Need-over-requires
 over-requires c κs = search needs
 
-row-of-requires : tie.Need-row-of-requires
-row-of-requires c κs = search needs
+row-with-requires : tie.Need-row-with-requires
+row-with-requires c κs = search needs
 
 got-requires : tie.Need-got-requires
 got-requires c κs = search needs
@@ -36,7 +36,7 @@ returns c = let j = c .before .before .before .before .before .before .before in
     vote-is _ (k .before .before .before .before .before .before .args .h) _ _ _ _ _ _ _ _
     (k .before .before .before .before .number-at .ensures .0) (k .before .before .before .entry-at .ensures)
     (k .before .before .hex-at .ensures) (k .before .letter-at .ensures) (k .mark-of .ensures) (c .before .before .over .ensures)
-    (c .before .row-of .ensures) (c .got .ensures)
+    (c .before .row-with .ensures) (c .got .ensures)
 
 pub vote-at-spec : {M : Type 1} → statement M
 vote-at-spec =
@@ -49,6 +49,6 @@ vote-at-spec =
     mark-of-requires
     cast-t14
     over-requires
-    row-of-requires
+    row-with-requires
     got-requires
     returns)
