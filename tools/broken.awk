@@ -6,8 +6,11 @@
 # `new: `: the first `old` behind the function's head becomes `new`. A function is judged where all it calls is proved: so the prover
 # is asked again, without those that it has refused, until none is left. It must miss a fact, not a step: a change that makes the proof
 # speak of steps that are no longer there is refused whatever it means, and needs a line `shape: ` that says why.
+# Every function that the prover names has a block. In a program those that read or write may have a line `open: `, the function, a
+# colon and why, instead.
 
-/^fn: / { blocks += 1; of[blocks] = substr($0, 5) }
+/^fn: / { blocks += 1; of[blocks] = substr($0, 5); told[of[blocks]] = 1 }
+/^open: / { opens += 1; left_open[opens] = substr($0, 7) }
 /^name: / { name[blocks] = " (" substr($0, 7) ")" }
 /^file: / { file[blocks] = substr($0, 7) }
 /^old: / { old[blocks] = substr($0, 6) }
@@ -15,6 +18,7 @@
 /^shape: / { shape[blocks] = substr($0, 8) }
 
 END {
+    for (k = 1; k <= opens; k += 1) leave_open(left_open[k])
     for (b = 1; b <= blocks; b += 1) open[b] = 1
     left = blocks
     while (left > 0) {
@@ -25,8 +29,23 @@ END {
         if (judged == 0) stop("the prover says nothing of the functions that are left; see " log_of())
         left -= judged
     }
-    printf "%s: %d broken functions tried in %d rounds, %d refused\n", crate, blocks, round, blocks - bad
+    all_told()
+    printf "%s: %d broken functions tried in %d rounds, %d refused\n", crate, blocks, round, blocks - unrefused
     exit bad > 0
+}
+
+function leave_open(line,    first) {
+    if ((getline first < (from "/src/main.rt")) < 0) stop("open: " line ": only a function of a program may be left open")
+    if (line !~ /^[^ ]+: .+/) stop("open: " line ": a function, a colon and why are wanted")
+    sub(/: .*/, "", line)
+    told[line] = 1
+    is_open[line] = 1
+}
+
+# Of every function that the prover names something is told, and no function is told of that it does not name.
+function all_told(    f) {
+    for (f in found) if (!(f in told)) { bad += 1; print crate ": " f " has no block in broken.txt" }
+    for (f in is_open) if (!(f in found)) { bad += 1; print crate ": " f " is left open, and there is no such function" }
 }
 
 function stop(why) {
@@ -94,6 +113,7 @@ function judge(    line, path, said, steps, b, many, f, at) {
         if (line ~ /^fn /) {
             f = substr(line, 4, index(line, ": ") - 4)
             said[f] = substr(line, index(line, ": ") + 2)
+            found[f] = 1
         }
         if (line ~ /^[^ ].*: error: /) at = substr(line, 1, index(line, ": error: "))
         if (line ~ /has no field `|that can be named from here/) steps[at] = 1
@@ -116,5 +136,6 @@ function misses_steps(path, steps,    at) {
 
 function complain(b, what, why) {
     bad += 1
+    unrefused += 1
     print crate ": " what ": " of[b] name[b] " with '" new[b] "' for '" old[b] "': " why
 }

@@ -1,6 +1,6 @@
 #!/usr/bin/env bash
 # Breaks every function once or more, many at a time, and has the prover refuse each by name: crates/NAME/broken.txt says how.
-#   bash tools/broken.sh [NAME...]     of these crates; else of all that have a broken.txt
+#   bash tools/broken.sh [NAME...]     of these crates; else of all that crates.txt lists
 # The crates must be proved (rt check). Ends with the number refused, and with a status that is not 0 where one was not.
 set -u
 cd "$(dirname "$0")/.." || exit 2
@@ -9,19 +9,25 @@ trap 'rm -rf "$copies"' EXIT
 
 # One crate, in a copy of its own: the prover looks at the crates below it too.
 one() {
+    began=$(date +%s)
     copy=$copies/$1
     mkdir -p "$copy/target"
     cp -R crates crates.txt "$copy"
     for part in rlib stamp log; do cp -R "target/$part" "$copy/target"; done
     awk -v crate="$1" -v from="$PWD/crates/$1" -v to="$copy/crates/$1" -v log_at="$PWD/target/log/broken.$1" -f tools/broken.awk "crates/$1/broken.txt" >"$copies/$1.out" 2>&1
     status=$?
-    cat "$copies/$1.out"
+    sed "s/ refused\$/& ($(($(date +%s) - began)) s)/" "$copies/$1.out"
     rm -rf "$copy"
     return "$status"
 }
 
-[ $# -gt 0 ] || set -- $(for f in crates/*/broken.txt; do basename "$(dirname "$f")"; done)
+# The crates that stand on the others are the largest: begun first, they do not hold up the end.
+[ $# -gt 0 ] || set -- $(sed -n 's/^\([a-z_0-9]*\):.*/\1/p' crates.txt | tac)
 failed=0
+for crate in "$@"; do
+    [ -s "crates/$crate/broken.txt" ] || { echo "$crate: there is no crates/$crate/broken.txt, so nothing breaks its functions"; failed=1; }
+done
+[ "$failed" -eq 0 ] || exit 1
 started=
 for crate in "$@"; do
     while [ "$(jobs -pr | wc -l)" -ge "${RT_JOBS:-$(nproc)}" ]; do sleep 1; done

@@ -1,99 +1,149 @@
-# Reads .rt files. Each `pub fn` must ask nothing of its caller and settle all that it answers, in one `ensures`:
-#     r ≡ d                of a value that it returns; `now r ≡ d` where that is a part of lent memory
-#     now (t .exit) ≡ d    of every t that is lent to be written
-# or several of them, as (..) × (..) × (..); `let x = d in` may stand before them. A d speaks of what was there at entry: r, `.exit`,
-# an arrow and a choice are not allowed in it. Any two answers that meet such a contract are equal (`one-answer` and `two-answers`,
-# crates/base/specs/Unique.antt; more than two: crates/station/specs/Unique.antt).
-# Prints each function that does not, and how many there are; the exit status is 1 where one does not.
+# Whether every public function of one library stands in its proofs/Contracts.antt, where the prover holds its contract to one answer.
+#   awk -v crate=NAME -f tools/contracts.awk crates/NAME/proofs/Contracts.antt, then each .rt file below crates/NAME/src
+# It reads no contract: it looks for names only. What it cannot read is an error. Prints what is wrong, then how many public functions
+# there are; the exit status is 1 where something is wrong.
 
-function bad(why) {
-    printf "%s:%d: %s %s\n", FILENAME, at, name, why
+function wrong(why) {
+    printf "%s:%d: %s\n", FILENAME, FNR, why
     failed = 1
 }
 
-# Whether what a contract says is right speaks of the answer itself.
-function circular(d) {
-    d = " " d " "
-    gsub(/[()]/, " ", d)
-    return index(d, " " binder " ") || index(d, " .exit ")
+# ---- proofs/Contracts.antt: imports, one module, and of each function a statement with nothing before it, proved by refl
+
+# The names that give a statement its meaning come from where they should, and from nowhere else.
+function imported(line,    names, own) {
+    own = "Rattle·" crate "·proofs.proofs as fn"
+    names = line
+    gsub(/[{},]/, " ", names)
+    names = names " "
+    if (line == "use " own) alias += 1
+    else if (line ~ / as /) wrong("brings in a module under another name: " line)
+    if (names ~ / World /) { if (line ~ /^use borrow\.Fn\.World\./) world += 1; else wrong("World is not the kit's: " line) }
+    if (names ~ / Exact /) { if (line ~ laws) exact += 1; else wrong("Exact is not that of base: " line) }
+    if (names ~ / (answers|answersWriting|shows|writes|value|seen|nothing) / && line !~ laws) wrong("an answer is not said in the words of base: " line)
+    if (names ~ / refl / && line !~ /^use mathlib\.Core\.Path\./) wrong("refl is not the kit's: " line)
 }
 
-# Takes `left ≡ right` apart: what it settles goes into `settled`.
-function part(text,    cut, left, right, parens) {
-    cut = index(text, " ≡ ")
-    left = substr(text, 1, cut - 1)
-    right = substr(text, cut + length(" ≡ "))
-    parens = right
-    if (!cut) bad("does not say what its answer is")
-    else if (circular(right)) bad("says its answer by its answer")
-    else if (right ~ /→|×|⊎|≡/ || gsub(/\(/, "", parens) != gsub(/\)/, "", parens)) bad("says more than what its answer is")
-    gsub(/«/, "", left)
-    gsub(/»/, "", left)
-    settled = settled " <" left ">"
+function statement(line,    words, path) {
+    split(line, words, " ")
+    path = words[6]
+    if (path !~ /^fn\.[A-Za-z_0-9.]+\.ended$/) { wrong("says nothing of a function: " line); return }
+    path = substr(path, 4, length(path) - 9)
+    if (words[7] != "fn." path ".spec") wrong("speaks of two functions: " line)
+    if (said[path] != "") wrong("says twice what " path " answers")
+    said[path] = FNR
+    proof = "  " words[2] " κs a = refl"
 }
 
-# What stands between the λ and the facts: nothing, or a name of one letter for what several of them speak of.
-function named(text,    name) {
-    if (text ~ /^ *$/) return
-    name = substr(text, 6, 1)
-    if (text !~ /^ let [a-z] = .* in $/ || text ~ /λ/ || circular(text)) bad("names what is no part of its answer")
-    else if (index(head, "(" name ": ") || index(head, " " name ": ")) bad("gives the name of a parameter to something else")
+function stated(line) {
+    sub(/--.*/, "", line)
+    sub(/ +$/, "", line)
+    if (line == "") return
+    if (line ~ /^use [^ ]+(\.\{[^{}]*\}| as fn)$/) imported(line)
+    else if (line == "module _ (w : World) where") opened += 1
+    else if (line ~ /^  pub [a-z0-9-]+-says : Exact w fn\./) statement(line)
+    else if (line ~ /^      [^ ]/) ; # the rest of a statement
+    else if (line == proof) proof = ""
+    else wrong("cannot be read: " line)
 }
 
-function look(    text, cut, rest, lent) {
-    if (head !~ / ensures /) {
-        bad("has no ensures")
-        return
+# ---- src/: the public functions, by module and type
+
+# The module that a file is: its path below src/, and nothing for lib.rt.
+function module_of(path) {
+    sub(/^.*\/src\//, "", path)
+    sub(/\.rt$/, "", path)
+    sub(/(^|\/)(lib|mod)$/, "", path)
+    gsub(/\//, ".", path)
+    return path == "" ? "" : path "."
+}
+
+# Comments and texts have no functions in them.
+function bare(line) {
+    gsub(/b?"([^"\\]|\\.)*"/, " TEXT ", line)
+    gsub(/b'([^'\\]|\\[^'])[^']*'/, " BYTE ", line)
+    sub(/\/\/.*/, "", line)
+    if (line ~ /\/\*/) wrong("cannot be read: a comment of more than one line")
+    return line
+}
+
+function tokens(line) {
+    while (match(line, /[A-Za-z_][A-Za-z_0-9]*|[{};()<>#\[\]]/)) {
+        token(substr(line, RSTART, RLENGTH))
+        line = substr(line, RSTART + RLENGTH)
     }
-    text = head
-    sub(/^.* ensures \{ λ /, "", text)
-    binder = text
-    sub(/\..*/, "", binder)
-    cut = index(text, "⌜ ")
-    named(substr(text, length(binder) + 2, cut - length(binder) - 2))
-    text = substr(text, cut + length("⌜ "))
-    sub(/ ⌝ \}.*$/, "", text)
-    settled = ""
-    if (index(text, ") × (")) {
-        text = substr(text, 2, length(text) - 2)
-        while (cut = index(text, ") × (")) {
-            part(substr(text, 1, cut - 1))
-            text = substr(text, cut + length(") × ("))
-        }
-    }
-    part(text)
-    if (head ~ /\) -> / && !index(settled, "<" binder ">") && !index(settled, "<now " binder ">")) bad("does not say what it returns")
-    rest = head
-    while (match(rest, /[a-z_][a-z_0-9]*: &('[a-z]+ )?mut /)) {
-        lent = substr(rest, RSTART, RLENGTH)
-        sub(/:.*/, "", lent)
-        if (!index(settled, "<now (" lent " .exit)>")) bad("does not say what becomes of " lent)
-        rest = substr(rest, RSTART + RLENGTH)
-    }
 }
 
-/^ *pub (extern "C" )?fn / {
-    name = $0
-    sub(/^ *pub (extern "C" )?fn /, "", name)
-    sub(/[(<].*/, "", name)
-    at = FNR
-    head = ""
-    inside = 1
-    functions++
+# `before` has what stands between the last item and this token.
+function token(t) {
+    if (last == "fn") function_named(t)
+    if (last == "struct" || last == "enum") declared(t)
+    if (t == "{") { depth += 1; inside[depth] = block(before) }
+    if (t == "}") depth -= 1
+    if (t == "{" || t == "}" || t == ";" || t == "]") before = ""
+    else before = before " " t
+    last = t
 }
 
-inside { head = head " " $0 }
+# What a brace opens: `mod NAME`, `impl NAME`, or anything else.
+function block(text) {
+    sub(/^ pub( \( [a-z ]*\))?/, "", text)
+    if (text ~ /^ mod [a-z_0-9]+$/) return text
+    if (text !~ /^ impl /) return ""
+    if (text ~ / for /) wrong("cannot be read: impl .. for")
+    sub(/^ impl( <[^>]*>)? /, "", text)
+    sub(/ .*/, "", text)
+    return " impl " text
+}
 
-inside && /^ *requires/ { bad("asks something of its caller") }
+function declared(name) {
+    if (owner[name] != "") wrong("cannot be read: two types of the name " name)
+    owner[name] = "in " place()
+}
 
-# The body opens on a line of its own behind a contract, and at the end of a line where there is none.
-inside && (/^ *\{ *$/ || (/\{ *$/ && !/ensures|requires/) || /^ *pub .*\{.*\} *$/) {
-    look()
-    inside = 0
+function place(    d, path) {
+    path = module_of(FILENAME)
+    for (d = 1; d <= depth; d += 1) if (inside[d] ~ /^ mod /) path = path substr(inside[d], 6) "."
+    return path
+}
+
+function function_named(name,    words, type, d) {
+    words = before
+    sub(/ fn$/, "", words)
+    if (words ~ /^ pub \( (crate|super|self|in [a-z_ ]+) \)/) return
+    if (words !~ /^( pub)?( (const|unsafe|extern|TEXT))*$/) { wrong("cannot be read:" words " fn " name); return }
+    if (words !~ /^ pub/) return
+    functions += 1
+    for (d = 1; d <= depth; d += 1) if (inside[d] ~ /^ impl /) type = substr(inside[d], 7)
+    at[functions] = FILENAME ":" FNR
+    of_type[functions] = type
+    named[functions] = type == "" ? place() name : type "." name
+}
+
+# ---- both together
+
+BEGIN {
+    laws = "^use Rattle.base" (crate == "base" ? "·specs.specs" : ".specs") "\\.Contracts\\."
+    gsub(/specs\.specs/, "specs\\.specs", laws)
+}
+
+FILENAME ~ /\.antt$/ { stated($0); next }
+
+{
+    if (FILENAME != file) { depth = 0; before = ""; last = ""; file = FILENAME }
+    tokens(bare($0))
 }
 
 END {
-    if (inside) bad("has no body")
-    printf "%d public functions looked at\n", functions
+    FILENAME = "crates/" crate "/proofs/Contracts.antt"
+    if (alias != 1 || world != 1 || exact != 1 || opened != 1) wrong("does not have each of its four first things once: World, Exact, fn, the module over w")
+    if (proof != "") wrong("the last statement has no proof")
+    for (k = 1; k <= functions; k += 1) {
+        path = of_type[k] == "" ? named[k] : substr(owner[of_type[k]], 4) named[k]
+        if (said[path] == "") { printf "%s: %s is public, and proofs/Contracts.antt does not say what it answers\n", at[k], path; failed = 1 }
+        known[path] = 1
+    }
+    for (path in said) if (!(path in known)) { printf "%s: %s is no public function\n", FILENAME, path; failed = 1 }
+    if (!failed) printf "%d\n", functions
     exit failed
 }

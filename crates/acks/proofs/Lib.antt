@@ -1,3 +1,4 @@
+pub mod Contracts
 pub mod Half
-pub mod Tally
 pub mod Signs
+pub mod Tally

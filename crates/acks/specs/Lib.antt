@@ -2,4 +2,3 @@ pub mod Acks
 pub mod RowLaws
 pub mod MostLaws
 pub mod MarginLaws
-pub mod Unique

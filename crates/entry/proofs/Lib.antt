@@ -1,3 +1,4 @@
+pub mod Contracts
 pub mod HexText
 pub mod Lanes
 pub mod Marks

@@ -7,5 +7,4 @@ pub mod Order
 pub mod Serial
 pub mod Table
 pub mod TableLaws
-pub mod Unique
 pub mod Words

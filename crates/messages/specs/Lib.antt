@@ -8,6 +8,5 @@ pub mod Reader
 pub mod RoundTrip
 pub mod Setup
 pub mod SetupLaws
-pub mod Unique
 pub mod Writer
 pub mod WriterLaws

@@ -10,7 +10,6 @@ use lib.ListN.{length, take, drop}
 use lib.Seq.{take-append-seam}
 use borrow.Author.Tests.{leb-true, le-leb, le-ltb}
 use Rattle.base.specs.Tests.{and-true}
-use Rattle.base.specs.Unique.{OneAnswer}
 use Rattle.text.specs.FieldLaws.{line-only}
 use Rattle.entry.specs.HexLaws.{zero-is-entry}
 use Rattle.messages.specs.declared.Head.{Head}
@@ -44,7 +43,7 @@ reads-only l Malformed h = go (readLine l) refl
     go (Read m) e = let w = read-was-written l m e in absurd (h m (w .1 .0) (w .0))
     go Malformed e = refl
 
-pub reads-unique : (l : List ℕ) → OneAnswer (Reads l)
+pub reads-unique : (l : List ℕ) (r s : Line) → Reads l r → Reads l s → r ≡ s
 reads-unique l r s a b = reads-only l r a ∙ sym (reads-only l s b)
 
 -- Messages with one line differ in unused fields only.

@@ -8,7 +8,6 @@ use lib.Dec.{eqb, lit<, lit≤}
 use lib.ListN.{length}
 use borrow.Author.Tests.{eqb-true, eq-eqb}
 use Rattle.base.specs.Tests.{true≢false, and-true, or-alone, or-r}
-use Rattle.base.specs.Unique.{OneAnswer}
 use Rattle.text.specs.DecimalLaws.{decimal-below, decimal-short, decimal-length}
 use Rattle.text.specs.DigitLaws.{letter-one}
 use Rattle.text.specs.Digits.{decimal, decDigit, plain, decimalOf, letterOf}
@@ -182,7 +181,7 @@ setup-only l Malformed a = go (readSetup l) refl
     go (Read h) e = let w = setup-was-written l h e in absurd (a h (w .1) (w .0))
     go Malformed e = refl
 
-pub setup-unique : (l : List ℕ) → OneAnswer (ReadsSetup l)
+pub setup-unique : (l : List ℕ) (r s : Opening) → ReadsSetup l r → ReadsSetup l s → r ≡ s
 setup-unique l r s a b = setup-only l r a ∙ sym (setup-only l s b)
 
 -- ---- how long it is, and its last byte

@@ -4,6 +4,7 @@ pub mod Asking
 pub mod Begun
 pub mod Casting
 pub mod Confirming
+pub mod Contracts
 pub mod Entering
 pub mod Methods
 pub mod OwnNumber

@@ -8,5 +8,4 @@ pub mod Refusals
 pub mod Replica
 pub mod Steps
 pub mod TidyLaws
-pub mod Unique
 pub mod house

@@ -8,4 +8,3 @@ pub mod Marks
 pub mod Past
 pub mod SizeLaws
 pub mod Quorums
-pub mod Unique

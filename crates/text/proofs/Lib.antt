@@ -1,2 +1,3 @@
-pub mod Reading
+pub mod Contracts
 pub mod Putting
+pub mod Reading

@@ -8,4 +8,3 @@ pub mod Fields
 pub mod HexLaws
 pub mod Put
 pub mod PutLaws
-pub mod Unique

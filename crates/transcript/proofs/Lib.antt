@@ -1,5 +1,6 @@
 pub mod Arms
 pub mod Beginning
+pub mod Contracts
 pub mod Deciding
 pub mod Lengths
 pub mod Meeting

@@ -15,4 +15,3 @@ pub mod StepLaws
 pub mod TextLaws
 pub mod Texts
 pub mod Transcript
-pub mod Unique

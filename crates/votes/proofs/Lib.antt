@@ -1,5 +1,6 @@
-pub mod Pairs
-pub mod Masked
+pub mod Contracts
 pub mod Held
-pub mod Walking
 pub mod Lent
+pub mod Masked
+pub mod Pairs
+pub mod Walking

@@ -17,7 +17,6 @@ pub mod Smallest
 pub mod Steps
 pub mod TableLaws
 pub mod TwoViews
-pub mod Unique
 pub mod Vote
 pub mod VoteLaws
 pub mod Ways

@@ -7,7 +7,6 @@ ghost use Rattle.votes.specs.Rows.{votesOf, tableOf, voteAt, callNumber,
 ghost use Rattle.votes.specs.Steps.{bareVotes};
 use crate::Choice;
 use crate::Selected;
-use crate::VoteRows;
 use crate::search;
 use entry::table;
 use entry::table::Entries;
@@ -58,7 +57,8 @@ pub(crate) fn call_number(n: u8, f: u8, v: View) -> u8
     base::pick(number == 0, base::pick(v.0 == 0, 5, 0), number)
 }
 
-// The selection over a table that is lent as its arrays.
+// The leader's own selection, over its table lent as arrays. A row of that table that is not valid counts as empty, so there is no 15
+// here: 15 is for rows that come in a list.
 pub fn choose_among<'a>(
     filled: u64,
     cast: u64,
@@ -83,24 +83,4 @@ pub fn choose_among<'a>(
     }
     let rows = search::present(filled, cast, verified, entries, masks, views, n, f, v);
     Selected::Chosen(five_steps(rows, cast, entries, views, n, f))
-}
-
-impl VoteRows {
-    // The selection over a table by value.
-    pub fn choose(self, n: u8, f: u8, v: View) -> Selected
-        ensures { λ r. ⌜ r ≡ chosen n f v self ⌝ }
-    {
-        let t = self.votes;
-        choose_among(
-            self.filled,
-            t.cast,
-            t.verified,
-            &t.entries,
-            &t.masks,
-            &t.views,
-            n,
-            f,
-            v,
-        )
-    }
 }

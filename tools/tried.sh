@@ -1,0 +1,64 @@
+#!/usr/bin/env bash
+# The gate's own tools, each given what it must not let pass: a tool that takes everything shows nothing.
+#   bash tools/tried.sh
+# The crates must be proved (rt check). Ends with how many of these were refused, and with a status that is not 0 where one was not.
+set -u
+cd "$(dirname "$0")/.." || exit 2
+copies=$(mktemp -d) || exit 2
+trap 'rm -rf "$copies"' EXIT
+tried=0
+failed=0
+
+# A copy of the tools and of the crate base alone, which stands on no other.
+copy=$copies/copy
+fresh() {
+    rm -rf "$copy"
+    mkdir -p "$copy/crates" "$copy/target"
+    cp -R tools "$copy"
+    cp -R crates/base "$copy/crates"
+    echo 'base:' >"$copy/crates.txt"
+    for part in rlib stamp log; do cp -R "target/$part" "$copy/target"; done
+}
+
+# The tool must fail, and say this.
+refuses() { # WHAT SAYS TOOL [WORDS...]
+    what=$1 says=$2 tool=$3
+    shift 3
+    tried=$((tried + 1))
+    said=$(bash "$copy/tools/$tool" "$@" 2>&1) && { echo "tried: $what: tools/$tool lets it pass"; failed=1; return; }
+    case $said in
+    *"$says"*) ;;
+    *) printf 'tried: %s: tools/%s does not say "%s" but: %s\n' "$what" "$tool" "$says" "$said"; failed=1 ;;
+    esac
+}
+
+fresh
+rm "$copy/tools/hollow-contracts.txt"
+refuses 'no trials of contracts' 'hollow-contracts.txt' contracts.sh trials
+: >"$copy/tools/hollow-contracts.txt"
+refuses 'an empty file of trials' 'has no trial' contracts.sh trials
+printf 'trial: none\nrefused: names\n' >"$copy/tools/hollow-contracts.txt"
+refuses 'a trial that changes nothing' 'lets it through' contracts.sh trials
+printf 'trial: none\nrefused: prover\n' >"$copy/tools/hollow-contracts.txt"
+refuses 'a trial that changes nothing' 'the prover takes it' contracts.sh trials
+rm "$copy/crates/base/proofs/Contracts.antt"
+refuses 'a library without Contracts.antt' 'there is no proofs/Contracts.antt' contracts.sh
+
+fresh
+rm "$copy/crates/base/broken.txt"
+refuses 'a library without broken.txt' 'there is no crates/base/broken.txt' broken.sh
+
+fresh
+awk '/^fn: base::pick_flag/ { skip = 1 } /^$/ { skip = 0 } !skip' crates/base/broken.txt >"$copy/crates/base/broken.txt"
+refuses 'a function without a block' 'base::pick_flag has no block' broken.sh
+
+fresh
+printf '\nopen: base::pick_flag: for no reason\n' >>"$copy/crates/base/broken.txt"
+refuses 'a function of a library left open' 'only a function of a program' broken.sh
+
+fresh
+awk '/^new: / { print "new: " old; next } /^old: / { old = substr($0, 6) } { print }' crates/base/broken.txt >"$copy/crates/base/broken.txt"
+refuses 'a function broken by nothing' 'NOT REFUSED' broken.sh
+
+[ "$failed" -eq 0 ] || exit 1
+echo "tools tried: $tried"
