@@ -123,8 +123,7 @@ function function_named(name,    words, type, d) {
 # ---- both together
 
 BEGIN {
-    laws = "^use Rattle.base" (crate == "base" ? "·specs.specs" : ".specs") "\\.Contracts\\."
-    gsub(/specs\.specs/, "specs\\.specs", laws)
+    laws = crate == "base" ? "^use Rattle\\.base\\.specs\\.Contracts\\." : "^use Rattle\\.base\\.specs\\.Contracts\\."
 }
 
 FILENAME ~ /\.antt$/ { stated($0); next }

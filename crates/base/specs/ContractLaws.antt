@@ -18,7 +18,14 @@ use Rattle.base.specs.Contracts.{Returned, value, seen, nothing, returne
 
 first-fact : (p : Type 0) (ps : List (Type 0)) → every (p ∷ ps) → p × every ps
 first-fact p [] h = (h, tt)
-first-fact p (q ∷ ps) h = h
+first-fact p (q ∷ []) h = h
+first-fact p (q ∷ r ∷ []) h = (h .0, (h .1, h .2))
+first-fact p (q ∷ r ∷ s ∷ []) h = (h .0, (h .1, h .2, h .3))
+first-fact p (q ∷ r ∷ s ∷ t ∷ []) h = (h .0, (h .1, h .2, h .3, h .4))
+first-fact p (q ∷ r ∷ s ∷ t ∷ u ∷ []) h = (h .0, (h .1, h .2, h .3, h .4, h .5))
+first-fact p (q ∷ r ∷ s ∷ t ∷ u ∷ v ∷ []) h = (h .0, (h .1, h .2, h .3, h .4, h .5, h .6))
+first-fact p (q ∷ r ∷ s ∷ t ∷ u ∷ v ∷ w ∷ []) h = (h .0, (h .1, h .2, h .3, h .4, h .5, h .6, h .7))
+first-fact p (q ∷ r ∷ s ∷ t ∷ u ∷ v ∷ w ∷ x ∷ xs) h = h
 
 -- ---- what is returned
 

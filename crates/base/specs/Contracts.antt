@@ -54,11 +54,18 @@ writtenIs κs (s ∷ ss) ks a d ws = behindIs (s .row κs .exit (ks .0)) (a .0) 
 
 -- ---- the answer: what is returned, and the lent memory afterwards
 
--- Facts one beside the other, as contracts have them.
+-- Facts one beside the other, as a contract has them: one product, and not pairs of pairs. No contract has more than eight.
 abbrev pub every : List (Type 0) → Type 0
 every [] = Unit {0}
 every (p ∷ []) = p
-every (p ∷ q ∷ ps) = p × every (q ∷ ps)
+every (p ∷ q ∷ []) = p × q
+every (p ∷ q ∷ r ∷ []) = p × q × r
+every (p ∷ q ∷ r ∷ s ∷ []) = p × q × r × s
+every (p ∷ q ∷ r ∷ s ∷ t ∷ []) = p × q × r × s × t
+every (p ∷ q ∷ r ∷ s ∷ t ∷ u ∷ []) = p × q × r × s × t × u
+every (p ∷ q ∷ r ∷ s ∷ t ∷ u ∷ v ∷ []) = p × q × r × s × t × u × v
+every (p ∷ q ∷ r ∷ s ∷ t ∷ u ∷ v ∷ w ∷ []) = p × q × r × s × t × u × v × w
+every (p ∷ q ∷ r ∷ s ∷ t ∷ u ∷ v ∷ w ∷ x ∷ xs) = p × every (q ∷ r ∷ s ∷ t ∷ u ∷ v ∷ w ∷ x ∷ xs)
 
 module _ (T : Ended) (κs : Lfts (T .signature .lifetimes)) (a : Args (T .signature) κs) where
   abbrev pub Answer : Type 1

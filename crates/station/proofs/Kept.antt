@@ -30,4 +30,4 @@ kept {A} {t} number next {scalars} {ackEntries} {ackViews} {voteEntries} {voteMa
     subst
     (λ (x : A). Leaves (number x) (next x) (number t) scalars ackEntries ackViews voteEntries voteMasks voteViews)
     e
-    (refl, k)
+    (refl, k .0, k .1, k .2, k .3, k .4, k .5)
