@@ -13,7 +13,8 @@ one() {
     copy=$copies/$1
     mkdir -p "$copy/target"
     cp -R crates crates.txt "$copy"
-    for part in rlib stamp log; do cp -R "target/$part" "$copy/target"; done
+    for part in stamp log; do cp -R "target/$part" "$copy/target"; done
+    ln -s "$PWD/target/rlib" "$copy/target"
     awk -v crate="$1" -v from="$PWD/crates/$1" -v to="$copy/crates/$1" -v log_at="$PWD/target/log/broken.$1" -f tools/broken.awk "crates/$1/broken.txt" >"$copies/$1.out" 2>&1
     status=$?
     sed "s/ refused\$/& ($(($(date +%s) - began)) s)/" "$copies/$1.out"

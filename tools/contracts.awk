@@ -20,7 +20,8 @@ function imported(line,    names, own) {
     else if (line ~ / as /) wrong("brings in a module under another name: " line)
     if (names ~ / World /) { if (line ~ /^use borrow\.Fn\.World\./) world += 1; else wrong("World is not the kit's: " line) }
     if (names ~ / Exact /) { if (line ~ laws) exact += 1; else wrong("Exact is not that of base: " line) }
-    if (names ~ / (answers|answersWriting|shows|writes|value|seen|nothing) / && line !~ laws) wrong("an answer is not said in the words of base: " line)
+    if (names ~ / (answers|answersWriting|shows|writes|value) / && line !~ laws) wrong("an answer is not said in the words of base: " line)
+    if (names ~ / (seen|nothing) /) wrong("an answer is said in words that could hide it: " line)
     if (names ~ / refl / && line !~ /^use mathlib\.Core\.Path\./) wrong("refl is not the kit's: " line)
 }
 

@@ -17,7 +17,8 @@ fresh() {
     cp -R tools "$copy"
     cp -R crates/base "$copy/crates"
     echo 'base:' >"$copy/crates.txt"
-    for part in rlib stamp log; do cp -R "target/$part" "$copy/target"; done
+    for part in stamp log; do cp -R "target/$part" "$copy/target"; done
+    ln -s "$PWD/target/rlib" "$copy/target"
 }
 
 # The tool must fail, and say this.

@@ -24,7 +24,7 @@ use borrow.Fn.World.{World}
 
 -- ---- what is returned
 
--- A value; a part of lent memory, which is as it is seen; nothing.
+-- A value; a part of lent memory, of which the bytes are seen; nothing. Of the last two `shows` and `writes` below are the only uses.
 pub data Returned (R : Type 0) : Type 1 where
   value : R → Returned R
   seen : (X : Type 0) → (R → X) → X → Returned R
@@ -35,7 +35,10 @@ returnedIs (value d) r = (r ≡ d) ∷ []
 returnedIs (seen X look d) r = (look r ≡ d) ∷ []
 returnedIs (nothing alone) r = []
 
--- ---- memory that is lent to be written: what is in it afterwards, for each parameter that lends some
+-- ---- memory that is lent to be written
+
+-- What is in it afterwards, of each parameter that lends some. The kit's `Exit` tells of a parameter's type whether it does: `unchanged`, or
+-- `leaves` with the type of the last value.
 abbrev pub Behind : {D : Type 0} → Exit D → D → Type 0 → Type 0
 Behind unchanged x rest = rest
 Behind (leaves L l S s) x rest = L x × rest
@@ -88,7 +91,7 @@ writes e = (nothing (λ r s. refl), (e, tt))
 abbrev pub answersWriting : {R X : Type 0} → R → X → Returned R × (X × Unit {0})
 answersWriting d e = (value d, (e, tt))
 
--- ---- a contract, in a world in which its function runs
+-- ---- a contract, in a world in which its function runs (the kit's theorem about a function holds in all of them; it has one, `w₀`)
 module _ (w : World) where
   abbrev pub Contract : Ended → Type 2
   Contract T = (𝓤 : URA (w .M)) → Heap 𝓤 → Atoms 𝓤 → (Memory → SProp 𝓤) → (Routine → Fun 𝓤) → Spec 𝓤 (T .signature)
