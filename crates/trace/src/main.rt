@@ -1,9 +1,14 @@
 // Standard input to standard output, in constant memory: a window of the input, and a buffer in which the output is collected.
-// What is read and written no contract can say; what is done with it stands in `transcript`.
-ghost use Prim.Native.Nat.{_≤_};
+// What is read and written no contract can say: a function that does either promises the rest, any other its whole answer.
+// What is done with the input stands in `transcript`.
+ghost use Prim.Native.Nat.{_-_, _≤_, min};
 ghost use mathlib.Core.Path.{_≡_};
-ghost use lib.ListN.{length};
-ghost use Rattle.trace.specs.Inside.{Inside};
+ghost use mathlib.Core.Bool.{cond};
+ghost use lib.Dec.{ltb};
+ghost use lib.ListN.{length, take};
+ghost use Rattle.messages.specs.Writer.{lent};
+ghost use Rattle.transcript.specs.Feeding.{fedOf, cutState, lastText, within};
+ghost use Rattle.trace.specs.Windows.{Inside, unused, behindBy, ranIn, kept, refilledTo, ReadBehind, BehindFirst};
 use libc::STDERR_FILENO;
 use libc::STDIN_FILENO;
 use libc::STDOUT_FILENO;
@@ -29,13 +34,13 @@ struct Refilled {
 }
 
 fn least(a: usize, b: usize) -> usize
-    ensures { λ r. ⌜ (r ≤ a) × (r ≤ b) ⌝ }
+    ensures { λ r. ⌜ r ≡ min a b ⌝ }
 {
     if a < b { a } else { b }
 }
 
 fn kept_if(keep: bool, n: usize) -> usize
-    ensures { λ r. ⌜ r ≤ n ⌝ }
+    ensures { λ r. ⌜ r ≡ cond keep n 0 ⌝ }
 {
     if keep { n } else { 0 }
 }
@@ -49,18 +54,18 @@ fn complain_if(failed: bool, what: &[u8]) {
 
 // One read behind what is there. The end stays where it is when the input is over, or cannot be read.
 fn read_more(buf: &mut [u8], end: usize) -> usize
-    ensures { λ r. ⌜ r ≤ length (now (buf .exit)) ⌝ }
+    requires { ⌜ end ≤ length (now buf) ⌝ }
+    ensures { λ r. ⌜ ReadBehind (take end (now (buf .entry))) r (now (buf .exit)) ⌝ }
 {
-    let from = least(end, buf.len());
-    let got = libc::read(STDIN_FILENO, &mut buf[from..]);
+    let got = libc::read(STDIN_FILENO, &mut buf[end..]);
     complain_if(got < 0, b"trace: standard input cannot be read\n");
-    from + io::count(got, &buf[from..])
+    end + io::count(got, &buf[end..])
 }
 
 // What is left goes to the front. Answers where it then ends.
 fn shift(buf: &mut [u8], w: Window) -> usize
     requires { ⌜ Inside w (now buf) ⌝ }
-    ensures { λ r. ⌜ r ≤ length (now (buf .exit)) ⌝ }
+    ensures { λ r. ⌜ (r ≡ w .end - w .at) × (now (buf .exit) ≡ lent (now (buf .entry)) (unused w (now (buf .entry)))) ⌝ }
 {
     let from = w.at;
     let end = w.end;
@@ -75,7 +80,7 @@ fn shift(buf: &mut [u8], w: Window) -> usize
 // One read behind what is left. A line that fills the window is too long to be any: its front is dropped.
 fn refill(buf: &mut [u8], w: Window) -> Refilled
     requires { ⌜ Inside w (now buf) ⌝ }
-    ensures { λ r. ⌜ r .end ≤ length (now (buf .exit)) ⌝ }
+    ensures { λ r. ⌜ (r ≡ refilledTo w (now (buf .entry)) (r .end)) × ReadBehind (kept w (now (buf .entry))) (r .end) (now (buf .exit)) ⌝ }
 {
     let left = shift(buf, w);
     let full = left == buf.len();
@@ -91,7 +96,7 @@ fn refill(buf: &mut [u8], w: Window) -> Refilled
 // What is left when some of it was used.
 fn behind(w: Window, used: usize) -> Window
     requires { ⌜ w .at ≤ w .end ⌝ }
-    ensures { λ r. ⌜ (r .at ≤ r .end) × (r .end ≡ w .end) ⌝ }
+    ensures { λ r. ⌜ r ≡ behindBy w used ⌝ }
 {
     let at = w.at;
     let end = w.end;
@@ -103,7 +108,7 @@ fn behind(w: Window, used: usize) -> Window
 
 // Reads until the first line is whole, the window is full or the input is over.
 fn read_first(buf: &mut [u8]) -> Window
-    ensures { λ r. ⌜ Inside r (now (buf .exit)) ⌝ }
+    ensures { λ r. ⌜ BehindFirst r (now (buf .exit)) ⌝ }
 {
     let mut end: usize = 0;
     let mut turns = usize::MAX;
@@ -113,8 +118,7 @@ fn read_first(buf: &mut [u8]) -> Window
         end = read_more(buf, was);
         let line = end_of_line(&buf[..end], 0);
         if (0 < line) | (end == was) {
-            let at = least(line, end);
-            return Window { at: at, end: end };
+            return Window { at: line, end: end };
         }
     }
     Window { at: 0, end: end }
@@ -130,18 +134,23 @@ fn write_front(out: &[u8], put: usize) -> bool {
 
 fn feed_window(state: State, buf: &[u8], w: Window, out: &mut [u8]) -> Fed
     requires { ⌜ Inside w (now buf) ⌝ }
+    ensures { λ r. ⌜ (r ≡ fedOf (ranIn state w (now (buf .entry)) (length (now (out .entry))))) × (now (out .exit) ≡ lent (now (out .entry)) (ranIn state w (now (buf .entry)) (length (now (out .entry))) .text)) ⌝ }
 {
     let at = w.at;
     let end = w.end;
     feed(state, &buf[at..end], out)
 }
 
-fn cut_if(full: bool, state: State) -> State {
+fn cut_if(full: bool, state: State) -> State
+    ensures { λ r. ⌜ r ≡ cond full (cutState state) state ⌝ }
+{
     if full { state.cut_line() } else { state }
 }
 
 // What the end of the input prints.
-fn write_last(state: State, w: Window, out: &mut [u8]) {
+fn write_last(state: State, w: Window, out: &mut [u8])
+    ensures { λ r. ⌜ now (out .exit) ≡ lent (now (out .entry)) (within (length (now (out .entry))) (lastText state (ltb (w .at) (w .end)))) ⌝ }
+{
     let put = finish(state, w.at < w.end, out);
     write_front(out, put);
 }

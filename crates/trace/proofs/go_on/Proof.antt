@@ -1,18 +1,19 @@
-use Prim.Native.Nat.{ℕ, _≤_}
+use Prim.Native.Nat.{ℕ, _-_}
 use native.Mathlib.Omega.{arith}
-use mathlib.Core.Path.{_≡_, _∙_, refl}
+use mathlib.Core.Path.{_≡_, _∙_, refl, sym, subst}
+use mathlib.Core.Bool.{not}
 use mathlib.Core.List.{List}
 use lib.ListN.{length}
 use Rattle.trace.specs.declared.Window.{Window}
-use Rattle.trace.specs.Inside.{Inside}
+use Rattle.trace.specs.Windows.{Inside, behindBy}
+use Rattle.trace.proofs.Windows.{kept-at-most, behind-inside}
 use borrow.Author.Needs.{needs}
 use Rattle.trace.proofs.go_on.Statement.{statement}
 use Rattle.trace.proofs.go_on.Tie as tie
 
--- A window that ends where another ends lies where that one lies.
-ends-alike :
-    (w r : Window) (buf : List ℕ) → Inside w buf → (r .at ≤ r .end) × (r .end ≡ w .end) → Inside r buf
-ends-alike w r buf inside ends = (ends .0, omega (arith, ends .1, inside .1))
+-- What is behind a part of a window lies in the same buffer.
+rest-inside : (w r : Window) (buf : List ℕ) (used : ℕ) → Inside w buf → r ≡ behindBy w used → Inside r buf
+rest-inside w r buf used inside is = subst (λ (x : Window). Inside x buf) (sym is) (behind-inside w buf inside used)
 
 abbrev Inv-loop : tie.InvT-loop
 Inv-loop buf₀ out₀ state₀ w₀ turns₀ buf out state w turns =
@@ -57,13 +58,13 @@ loop-again c =
     let used = c .before .before .before .before .before in
     let fed = used .before .before .before .before in
     let l = fed .before .before .before .before .loop in
-    (ends-alike (l .w) (used .behind .result) (l .buf) (l .inv .0) (used .behind .ensures), l .inv .1, fed .feed-window .kept .1 .1 .1 .0 ∙ l .inv .2)
+    (rest-inside (l .w) (used .behind .result) (l .buf) _ (l .inv .0) (used .behind .ensures), l .inv .1, fed .feed-window .kept .1 .1 .1 .0 ∙ l .inv .2)
 
 refill-requires : tie.Need-refill-requires Inv-loop μ-loop
 refill-requires c κs =
     let used = c .before .before .before .before .before .before in
     let l = used .before .before .before .before .before .before .before .before .loop in
-    ends-alike (l .w) (used .behind .result) (l .buf) (l .inv .0) (used .behind .ensures)
+    rest-inside (l .w) (used .behind .result) (l .buf) _ (l .inv .0) (used .behind .ensures)
 
 cut-if-requires : tie.Need-cut-if-requires Inv-loop μ-loop
 cut-if-requires c κs = search needs
@@ -74,14 +75,16 @@ kept-if-requires c κs = search needs
 loop-less-2 : tie.Need-loop-less-2 Inv-loop μ-loop
 loop-less-2 c =
     let turn = c .before .before .before .before .before .before .before .before .before .before .before .before .before .before .before .before .before .before .before in
-    omega (arith, c .kept-if .ensures, turn .loop-test .taken)
+    let over = c .before .before .before .before .before .refill .result .over in
+    let kept = kept-at-most (not over) (turn .before .loop .turns - 1) (c .kept-if .result) (c .kept-if .ensures) in
+    omega (arith, kept, turn .loop-test .taken)
 
 loop-again-2 : tie.Need-loop-again-2 Inv-loop μ-loop
 loop-again-2 c =
     let read = c .before .before .before .before .before in
     let fed = read .before .before .before .before .before .before .before .before .before .before .before in
     let held = fed .before .before .before .before .loop .inv in
-    ((omega arith, read .refill .ensures), read .refill .kept .0 ∙ held .1, fed .feed-window .kept .1 .1 .1 .0 ∙ held .2)
+    ((omega arith, read .refill .ensures .1 .inside), read .refill .kept .0 ∙ held .1, fed .feed-window .kept .1 .1 .1 .0 ∙ held .2)
 
 write-last-requires : tie.Need-write-last-requires Inv-loop μ-loop
 write-last-requires c κs = search needs

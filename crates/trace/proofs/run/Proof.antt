@@ -14,7 +14,7 @@ slice-reshare-prefix-begin c = search needs
 slice-aggregate-begin : tie.Need-slice-aggregate-begin
 slice-aggregate-begin c =
     let first = c .before .before .before .read-first in
-    sym (length-take-le (first .result .at) (first .last .0) (omega (arith, first .ensures .0, first .ensures .1)))
+    sym (length-take-le (first .result .at) (first .last .0) (omega (arith, first .ensures .0 .0, first .ensures .0 .1)))
 
 begin-requires : tie.Need-begin-requires
 begin-requires c κs = search needs
