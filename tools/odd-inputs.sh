@@ -1,5 +1,5 @@
 #!/usr/bin/env bash
-# `trace` on inputs and outputs that are none, or too much: what it prints, what it says on standard error, that it ends.
+# `trace` on inputs and outputs that are none, too much, or begin with no H: what it prints, what it says on standard error, that it ends.
 #   bash tools/odd-inputs.sh TRACE SECOND     the two programs
 # Ends with a status that is not 0 where something differs from what stands here, or from the second program.
 set -u
@@ -21,15 +21,24 @@ opening="H${tab}4${tab}1${tab}0${tab}41312020202020202020202000000001"
 enter="E${tab}2"
 unread='trace: standard input cannot be read'
 unwritten='trace: standard output cannot be written'
+wanted='trace: the first line must be H, n, f, seat and entry (32 digits of 0-9a-f), with one tab and no blanks between two of them, and a line feed at the end'
 
 "$trace" </dev/null >"$here/out" 2>"$here/err"
-expect 'empty input' "0${tab}19" ''
+expect 'empty input' "0${tab}19" "$wanted"
+
+printf '%s\nS\n' "${opening//$tab/ }" | "$trace" >"$here/out" 2>"$here/err"
+expect 'blanks for tabs' "0${tab}19" "$wanted"
+
+printf '%s\nS\n' "${opening/4/3}" | "$trace" >"$here/out" 2>"$here/err"
+expect 'an H that setup refuses' "0${tab}1" ''
 
 "$trace" <"$here" >"$here/out" 2>"$here/err"
-expect 'a directory' "0${tab}19" "$unread"
+expect 'a directory' "0${tab}19" "$unread
+$wanted"
 
 "$trace" <&- >"$here/out" 2>"$here/err"
-expect 'closed input' "0${tab}19" "$unread"
+expect 'closed input' "0${tab}19" "$unread
+$wanted"
 
 : >"$here/out"
 printf '%s\n%s\n' "$opening" "$enter" | "$trace" 2>"$here/err" >/dev/full
@@ -46,6 +55,9 @@ for first in "$opening" ''; do
     "$trace" <"$here/noise" >"$here/out" 2>"$here/err"
     "$second" trace <"$here/noise" >"$here/wanted"
     cmp -s "$here/out" "$here/wanted" || { echo 'odd input: binary noise: trace and the second program differ'; failed=1; }
+    said=$wanted
+    [ -z "$first" ] || said=
+    expect 'binary noise' "$(cat "$here/out")" "$said"
 done
 
 # A line of 100 MB, in 16 MB of memory.

@@ -19,10 +19,10 @@ pub fn temporary(name: &str) -> PathBuf {
     std::env::temp_dir().join(format!("second-{}-{name}", process::id()))
 }
 
-/// What the program prints for this file.
+/// What the program prints for this file. What it says on standard error is not compared: on a bad H `trace` says what it wanted.
 pub fn output_of(program: &str, arguments: &[&str], path: &Path) -> Result<Vec<u8>, String> {
     let input = File::open(path).map_err(|error| format!("{}: {error}", path.display()))?;
-    let output = Command::new(program).args(arguments).stdin(input).stderr(Stdio::inherit()).output();
+    let output = Command::new(program).args(arguments).stdin(input).stderr(Stdio::null()).output();
     output.map(|output| output.stdout).map_err(|error| format!("{program}: {error}"))
 }
 

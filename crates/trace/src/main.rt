@@ -193,6 +193,10 @@ fn run(buf: &mut [u8], out: &mut [u8]) {
     if begun.number != 0 {
         let put = put_refusal(out, begun.number);
         write_front(out, put);
+        complain_if(
+            begun.number == 19,
+            b"trace: the first line must be H, n, f, seat and entry (32 digits of 0-9a-f), with one tab and no blanks between two of them, and a line feed at the end\n",
+        );
         return;
     }
     let first = begun.state;

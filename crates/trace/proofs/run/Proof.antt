@@ -25,6 +25,12 @@ put-refusal-requires c κs = search needs
 write-front-requires : tie.Need-write-front-requires
 write-front-requires c κs = search needs
 
+slice-aggregate-complain-if : tie.Need-slice-aggregate-complain-if
+slice-aggregate-complain-if c = search needs
+
+complain-if-requires : tie.Need-complain-if-requires
+complain-if-requires c κs = search needs
+
 same-length : tie.Need-same-length
 same-length c = search needs
 
@@ -56,6 +62,8 @@ run-spec =
     begin-requires
     put-refusal-requires
     write-front-requires
+    slice-aggregate-complain-if
+    complain-if-requires
     same-length
     same-length-2
     returns
