@@ -59,7 +59,8 @@ pub extern "C" fn luscarembo_setup(
 }
 
 // The events of a text: its whole lines, a Q with its rows, as `trace` takes them, numbered from 1. What `trace` prints of them
-// goes to the front of `out`, as long as there is room for one more event; the answer is how many bytes that is.
+// goes to the front of `out`, as long as there is room for one more event; the answer is how many bytes that is. The replica that
+// the arrays then hold is the one that `step` makes of these events, one after the other: `events-stepped` in EventLaws.antt.
 #[no_mangle]
 pub extern "C" fn luscarembo_events(
     scalars: &mut Scalars,
@@ -83,8 +84,9 @@ pub extern "C" fn luscarembo_events(
     );
     let fed = feed(resume(r), text, out);
     let state = fed.state;
+    let next = state.replica();
     keep(
-        state.replica,
+        next,
         scalars,
         ack_entries,
         ack_views,

@@ -4,7 +4,6 @@ use denote.Ref.{now}
 use lib.ListN.{length}
 use mathlib.Core.Path.{refl}
 use Rattle.base.specs.Contracts.{Exact, answers, answersWriting}
-use Rattle.messages.specs.Lines.{line}
 use Rattle.messages.specs.Writer.{lent}
 use Rattle.transcript.specs.Feeding.{begunBy, cutState, fedOf, lastText, ran, resumed, within}
 use Rattle.transcript.specs.LineEnds.{behindLine}
@@ -13,6 +12,9 @@ use Rattle.transcript.specs.Transcript.{badSetup}
 use Rattle.transcript.proofs as fn
 
 module _ (w : World) where
+  pub replica-says : Exact w fn.State.replica.ended fn.State.replica.spec (λ κs (state, _). answers (state .replica))
+  replica-says κs a = refl
+
   pub resume-says : Exact w fn.begin.resume.ended fn.begin.resume.spec (λ κs (s, _). answers (resumed s))
   resume-says κs a = refl
 
@@ -29,7 +31,7 @@ module _ (w : World) where
       answersWriting (fedOf (ran state (linesOf (now s)) (length (now out)))) (lent (now out) (ran state (linesOf (now s)) (length (now out)) .text)))
   feed-says κs a = refl
 
-  pub cut-line-says : Exact w fn.State.cut_line.ended fn.State.cut_line.spec (λ κs (self, _). answers (cutState self))
+  pub cut-line-says : Exact w fn.State.cut_line.ended fn.State.cut_line.spec (λ κs (state, _). answers (cutState state))
   cut-line-says κs a = refl
 
   pub finish-says : Exact w fn.finish.finish.ended fn.finish.finish.spec

@@ -98,7 +98,7 @@ run-behind (suc turns) st held h = go (hasEnd held) refl (run-behind turns)
     go true n later =
         let e = first-end held n in
         let some : 0 < length held = omega (arith, ap length (e .is), length-append (e .front) (lf ∷ e .behind)) in
-        let used : r .used ≡ 0 → ⊥ = λ u. true≢false (sym n ∙ stalls st held eventRoom refl u) in
+        let used : r .used ≡ 0 → ⊥ = λ u. true≢false (sym n ∙ stalls st held eventRoom (omega arith) u) in
         let f = later (r .state) (drop (r .used) held) (omega (arith, length-drop (r .used) held)) in
         (r .text ++ f .0, feed st held [] (f .0) eventRoom (f .1))
 

@@ -1,5 +1,5 @@
 -- The same line by line, as the code goes: nobody need believe it, since `feeds` in FeedLaws.antt says that it prints what
--- Transcript.antt asks for.
+-- Transcript.antt asks for, and `goes-on` in GoesOn.antt that it leaves the replica that `step` makes.
 use Prim.Native.Nat.{ℕ, _+_, _-_, _^_}
 use mathlib.Core.Bool.{Bool, true, false, _&&_, _||_, cond}
 use mathlib.Core.List.{List, [], _∷_, _++_}

@@ -3,6 +3,8 @@ pub mod ByPieces
 pub mod Events
 pub mod FeedLaws
 pub mod Feeding
+pub mod GoesOn
+pub mod LineByLine
 pub mod LineEnds
 pub mod LineLaws
 pub mod PieceLaws

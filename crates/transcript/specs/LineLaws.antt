@@ -5,8 +5,7 @@ use mathlib.Core.Bool.{Bool, true, false, _||_, cond}
 use mathlib.Core.List.{List, [], _∷_, _++_, append-assoc}
 use native.Mathlib.Omega.{arith}
 use lib.Dec.{eqb}
-use lib.ListN.{length, drop}
-use lib.Seq.{drop-append-seam}
+use lib.ListN.{length}
 use borrow.Author.Tests.{eqb-true}
 use Rattle.base.specs.Tests.{true≢false, or-false, or-r}
 use Rattle.text.specs.Fields.{lf, lineEnd}
@@ -92,7 +91,7 @@ whole-end [] = refl
 whole-end (b ∷ []) = refl
 whole-end (b ∷ (c ∷ cs)) = whole-end (c ∷ cs)
 
-open-end : (w : List ℕ) → hasEnd w ≡ false → whole w ≡ false
+pub open-end : (w : List ℕ) → hasEnd w ≡ false → whole w ≡ false
 open-end [] n = refl
 open-end (b ∷ []) n = or-false (eqb b lf) false n .0
 open-end (b ∷ (c ∷ cs)) n = open-end (c ∷ cs) (or-false (eqb b lf) (hasEnd (c ∷ cs)) n .1)
@@ -106,23 +105,12 @@ alone-open (b ∷ bs) l ls n e =
     let is : l ≡ b ∷ bs = cc in
     ap whole is ∙ open-end (b ∷ bs) n
 
--- With one, the first line is what stands up to it, and the others stand behind it, whatever follows the text.
-ended-lines : (s more : List ℕ) (r : Ended s) → linesOf (s ++ more) ≡ (r .front ++ lineEnd) ∷ linesOf (r .behind ++ more)
-ended-lines s more r =
-    ap (λ (x : List ℕ). linesOf (x ++ more)) (r .is)
-    ∙ ap linesOf (append-assoc (r .front) (lf ∷ r .behind) more)
-    ∙ lines-whole (r .front) (r .behind ++ more) (r .none)
-
+-- With one, it is what stands up to it.
 ended-first : (s l : List ℕ) (ls : List (List ℕ)) (r : Ended s) → linesOf s ≡ l ∷ ls
     → (l ≡ r .front ++ lineEnd) × (linesOf (r .behind) ≡ ls)
 ended-first s l ls r e =
     let same = sym (ap linesOf (r .is) ∙ lines-whole (r .front) (r .behind) (r .none)) ∙ e in
     (cc, cc)
-
-ended-drop : (s : List ℕ) (r : Ended s) → drop (length (r .front ++ lineEnd)) s ≡ r .behind
-ended-drop s r =
-    ap (drop (length (r .front ++ lineEnd))) (r .is ∙ sym (append-assoc (r .front) lineEnd (r .behind)))
-    ∙ drop-append-seam (r .front ++ lineEnd) (r .behind)
 
 -- A first line that is not whole: the text has no LF.
 pub first-open : (s l : List ℕ) (ls : List (List ℕ)) → linesOf s ≡ l ∷ ls → whole l ≡ false → hasEnd s ≡ false
@@ -134,21 +122,31 @@ first-open s l ls e h = go (hasEnd s) refl
         true≢false (sym (whole-end (r .front)) ∙ ap whole (sym (ended-first s l ls r e .0)) ∙ h)
     go false c = refl
 
--- One that is whole: behind it stand the others, whatever follows the text.
-pub first-whole : (s l : List ℕ) (ls : List (List ℕ)) (more : List ℕ) → linesOf s ≡ l ∷ ls → whole l ≡ true
-    → (linesOf (s ++ more) ≡ l ∷ linesOf (drop (length l) s ++ more)) × (linesOf (drop (length l) s) ≡ ls)
-first-whole s l ls more e h = go (hasEnd s) refl
+-- One that is whole: the others stand behind it, and it is the first line whatever stands there.
+pub record FirstWhole (s l : List ℕ) (ls : List (List ℕ)) : Type 0 where
+  pub behind : List ℕ
+  pub is : s ≡ l ++ behind
+  pub others : linesOf behind ≡ ls
+  pub first : (t : List ℕ) → linesOf (l ++ t) ≡ l ∷ linesOf t
+
+pub first-whole : (s l : List ℕ) (ls : List (List ℕ)) → linesOf s ≡ l ∷ ls → whole l ≡ true → FirstWhole s l ls
+first-whole s l ls e h = go (hasEnd s) refl
   where
-    go : (c : Bool) → hasEnd s ≡ c
-        → (linesOf (s ++ more) ≡ l ∷ linesOf (drop (length l) s ++ more)) × (linesOf (drop (length l) s) ≡ ls)
+    go : (c : Bool) → hasEnd s ≡ c → FirstWhole s l ls
     go false c = true≢false (sym h ∙ alone-open s l ls c e)
     go true c =
         let r = first-end s c in
         let f = ended-first s l ls r e in
-        let left = sym (ap (λ (x : List ℕ). drop (length x) s) (f .0) ∙ ended-drop s r) in (
-          ended-lines s more r ∙ ap₂ (λ (x y : List ℕ). x ∷ linesOf (y ++ more)) (sym (f .0)) left,
-          ap linesOf (sym left) ∙ f .1,
-        )
+        record {
+          behind = r .behind;
+          is = r .is ∙ sym (append-assoc (r .front) lineEnd (r .behind)) ∙ ap (λ (x : List ℕ). x ++ r .behind) (sym (f .0));
+          others = f .1;
+          first = λ t.
+              ap (λ (x : List ℕ). linesOf (x ++ t)) (f .0)
+              ∙ ap linesOf (append-assoc (r .front) lineEnd t)
+              ∙ lines-whole (r .front) t (r .none)
+              ∙ ap (λ (x : List ℕ). x ∷ linesOf t) (sym (f .0));
+        }
 
 -- ---- what is no line
 pub ends-there : (t : List ℕ) → hasEnd (t ++ lineEnd) ≡ true

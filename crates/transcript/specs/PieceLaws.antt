@@ -1,13 +1,13 @@
 -- Lines that come in pieces: what is fed of a piece, what is dropped of a line that is too long, and what is left at the end.
-use Prim.Native.Nat.{ℕ, _+_, _-_, _≤_}
-use mathlib.Core.Path.{_≡_, refl, sym, ap, _∙_}
+use Prim.Native.Nat.{ℕ, zero, suc, _+_, _-_, _≤_, _<_}
+use mathlib.Core.Path.{_≡_, refl, sym, ap, subst, _∙_}
 use mathlib.Core.Bool.{Bool, true, false, not, _&&_, _||_, cond}
 use mathlib.Core.List.{List, [], _∷_, _++_, append-assoc, append-nil}
 use native.Mathlib.Omega.{arith}
 use lib.Dec.{eqb, leb, ltb, eqb·suc-zero}
 use lib.ListN.{length, drop, length-append}
-use lib.Seq.{drop-drop}
-use borrow.Author.Tests.{ltb-true, leb-true, ne-eqb}
+use lib.Seq.{drop-append-add}
+use borrow.Author.Tests.{ltb-true, le-leb, ne-eqb}
 use Rattle.base.specs.Tests.{true≢false, and-true, or-r}
 use Rattle.messages.specs.declared.read.Line.the-variants.{Malformed}
 use Rattle.messages.specs.Longest.{longestRead}
@@ -17,7 +17,7 @@ use Rattle.transcript.specs.declared.sort.Sorted.{Sorted}
 use Rattle.transcript.specs.Texts.{linesOf}
 use Rattle.transcript.specs.Feeding.{readUnless, nextEvent, stateAfter, textOf}
 use Rattle.transcript.specs.Feeding.{whole, eventRoom, Ran, ranOn, ran, cutState, lastText}
-use Rattle.transcript.specs.LineLaws.{hasEnd, lines-none, lines-front, lines-alone, first-open, first-whole, no-end, too-long}
+use Rattle.transcript.specs.LineLaws.{hasEnd, lines-none, lines-front, lines-alone, open-end, first-open, first-whole, no-end, too-long}
 use Rattle.transcript.specs.RestLaws.{rest, after, unread, unread-sorted, unread-last, unread-line}
 
 -- ---- the input is over
@@ -69,75 +69,98 @@ drops st w more n h = go (linesOf more) refl
 
 -- ---- the whole lines of a piece
 
--- What was put, and what is still printed of the bytes that are left and of what follows.
-abbrev Tells : State → List ℕ → List ℕ → Ran → Type 0
-Tells st s more r = rest st (linesOf (s ++ more)) ≡ r .text ++ rest (r .state) (linesOf (drop (r .used) s ++ more))
+abbrev stopped : State → Ran
+stopped st = record { state = st; used = 0; text = [] }
 
-ran-tells : (more : List ℕ) (ls : List (List ℕ)) (st : State) (s : List ℕ) (room : ℕ) → linesOf s ≡ ls
-    → Tells st s more (ran st ls room)
-unfolding ran
-ran-tells more [] st s room e = refl
-ran-tells more (l ∷ ls) st s room e =
-    go (leb eventRoom room && whole l) refl (ran-tells more ls (stateAfter st l) (drop (length l) s) (room - length (textOf st l)))
-  where
-    later : Ran
-    later = ran (stateAfter st l) ls (room - length (textOf st l))
+-- What holds of a run over the lines of a text: it stops where an event has no room or no LF is left, and else takes the first line.
+module _ (P : State → List ℕ → ℕ → Ran → Type 0)
+    (stops : (st : State) (s : List ℕ) (room : ℕ) → (eventRoom ≤ room → hasEnd s ≡ false) → P st s room (stopped st))
+    (takes : (st : State) (l s : List ℕ) (room : ℕ) (later : Ran) → whole l ≡ true → ((t : List ℕ) → linesOf (l ++ t) ≡ l ∷ linesOf t)
+    → P (stateAfter st l) s (room - length (textOf st l)) later → P st (l ++ s) room (ranOn l (textOf st l) later)) where
+  ran-over : (ls : List (List ℕ)) (st : State) (s : List ℕ) (room : ℕ) → linesOf s ≡ ls → P st s room (ran st ls room)
+  unfolding ran
+  ran-over [] st s room e = stops st s room (λ enough. ap hasEnd (lines-none s e))
+  ran-over (l ∷ ls) st s room e = go (leb eventRoom room && whole l) refl (ran-over ls)
+    where
+      later : Ran
+      later = ran (stateAfter st l) ls (room - length (textOf st l))
 
-    go : (c : Bool) → (leb eventRoom room && whole l) ≡ c
-        → (linesOf (drop (length l) s) ≡ ls → Tells (stateAfter st l) (drop (length l) s) more later)
-        → Tells st s more (cond c (ranOn l (textOf st l) later) (record { state = st; used = 0; text = [] }))
-    go false c rec = refl
-    go true c rec =
-        let f = first-whole s l ls more e (and-true (leb eventRoom room) (whole l) c .1) in
-        ap (rest st) (f .0)
-        ∙ ap (λ (t : List ℕ). textOf st l ++ t) (rec (f .1))
-        ∙ sym (append-assoc (textOf st l) (later .text) (rest (later .state) (linesOf (drop (later .used) (drop (length l) s) ++ more))))
-        ∙ ap (λ (t : List ℕ). (textOf st l ++ later .text) ++ rest (later .state) (linesOf (t ++ more))) (drop-drop (later .used) (length l) s)
+      go : (c : Bool) → (leb eventRoom room && whole l) ≡ c
+          → ((st : State) (s : List ℕ) (room : ℕ) → linesOf s ≡ ls → P st s room (ran st ls room))
+          → P st s room (cond c (ranOn l (textOf st l) later) (stopped st))
+      go false c rec =
+          stops st s room (λ enough. first-open s l ls e (ap (λ (b : Bool). b && whole l) (sym (le-leb eventRoom room enough)) ∙ c))
+      go true c rec =
+          let w = and-true (leb eventRoom room) (whole l) c .1 in
+          let f = first-whole s l ls e w in
+          subst (λ (x : List ℕ). P st x room (ranOn l (textOf st l) later)) (sym (f .is))
+          (takes st l (f .behind) room later w (f .first) (rec (stateAfter st l) (f .behind) (room - length (textOf st l)) (f .others)))
+
+  pub runs : (st : State) (s : List ℕ) (room : ℕ) → P st s room (ran st (linesOf s) room)
+  runs st s room = ran-over (linesOf s) st s room refl
 
 -- However much of a piece is fed, the rest is told as if all had come at once.
 pub pieces : (st : State) (s more : List ℕ) (room : ℕ)
     → rest st (linesOf (s ++ more))
     ≡ ran st (linesOf s) room .text ++ rest (ran st (linesOf s) room .state) (linesOf (drop (ran st (linesOf s) room .used) s ++ more))
-pieces st s more room = ran-tells more (linesOf s) st s room refl
+pieces st s more room = runs Tells (λ st s room none. refl) takes st s room
+  where
+    -- What was put, and what is still printed of the bytes that are left and of what follows.
+    Tells : State → List ℕ → ℕ → Ran → Type 0
+    Tells st s room r = rest st (linesOf (s ++ more)) ≡ r .text ++ rest (r .state) (linesOf (drop (r .used) s ++ more))
 
--- What is used of a whole line is not nothing.
-none-used : (l t : List ℕ) (later stopped : Ran) (room c : Bool) → room ≡ true → whole l ≡ c
-    → cond (room && c) (ranOn l t later) stopped .used ≡ 0 → c ≡ false
-none-used [] t later stopped room c h e u = sym e
-none-used (b ∷ bs) t later stopped room false h e u = refl
-none-used (b ∷ bs) t later stopped false true h e u = true≢false (sym h)
-none-used (b ∷ bs) t later stopped true true h e u = absurd (omega arith)
+    takes : (st : State) (l s : List ℕ) (room : ℕ) (later : Ran) → whole l ≡ true → ((t : List ℕ) → linesOf (l ++ t) ≡ l ∷ linesOf t)
+        → Tells (stateAfter st l) s (room - length (textOf st l)) later → Tells st (l ++ s) room (ranOn l (textOf st l) later)
+    takes st l s room later w first tells =
+        ap (λ (t : List ℕ). rest st (linesOf t)) (append-assoc l s more)
+        ∙ ap (rest st) (first (s ++ more))
+        ∙ ap (λ (t : List ℕ). textOf st l ++ t) tells
+        ∙ sym (append-assoc (textOf st l) (later .text) (rest (later .state) (linesOf (drop (later .used) s ++ more))))
+        ∙ ap (λ (t : List ℕ). (textOf st l ++ later .text) ++ rest (later .state) (linesOf (t ++ more))) (sym (drop-append-add l s (later .used)))
+
+-- A whole line is not empty.
+whole-some : (l : List ℕ) → whole l ≡ true → 0 < length l
+whole-some [] w = true≢false (sym w)
+whole-some (b ∷ bs) w = omega arith
 
 -- Where an event has room and nothing is used, there is no LF.
-pub stalls : (st : State) (s : List ℕ) (room : ℕ) → leb eventRoom room ≡ true → ran st (linesOf s) room .used ≡ 0
-    → hasEnd s ≡ false
-unfolding ran
-stalls st s room h u = go (linesOf s) refl u
-  where
-    stopped : Ran
-    stopped = record { state = st; used = 0; text = [] }
+pub stalls : (st : State) (s : List ℕ) (room : ℕ) → eventRoom ≤ room → ran st (linesOf s) room .used ≡ 0 → hasEnd s ≡ false
+stalls =
+    runs (λ (st : State) (s : List ℕ) (room : ℕ) (r : Ran). eventRoom ≤ room → r .used ≡ 0 → hasEnd s ≡ false)
+    (λ st s room none enough u. none enough)
+    (λ st l s room later w first rec enough u. absurd (omega (arith, whole-some l w)))
 
-    go : (ls : List (List ℕ)) → linesOf s ≡ ls → ran st ls room .used ≡ 0 → hasEnd s ≡ false
-    go [] e u = ap hasEnd (lines-none s e)
-    go (l ∷ ls) e u =
-        let later = ran (stateAfter st l) ls (room - length (textOf st l)) in
-        first-open s l ls e (none-used l (textOf st l) later stopped (leb eventRoom room) (whole l) h refl u)
+-- Where an event has room behind all that was put, no LF is left.
+pub no-line-left : (st : State) (s : List ℕ) (room : ℕ) → length (ran st (linesOf s) room .text) + eventRoom ≤ room
+    → hasEnd (drop (ran st (linesOf s) room .used) s) ≡ false
+no-line-left =
+    runs (λ (st : State) (s : List ℕ) (room : ℕ) (r : Ran). length (r .text) + eventRoom ≤ room → hasEnd (drop (r .used) s) ≡ false)
+    (λ st s room none enough. none (omega arith))
+    (λ st l s room later w first rec enough.
+    ap hasEnd (drop-append-add l s (later .used)) ∙ rec (omega (arith, length-append (textOf st l) (later .text))))
 
--- No more is put than there is room for, where no event takes more than an event's room.
-module _ (P : State → Type 0)
-    (kept : (st : State) (l : List ℕ) → P st → P (stateAfter st l) × (length (textOf st l) ≤ eventRoom)) where
-  pub room-kept : (ls : List (List ℕ)) (st : State) (room : ℕ) → P st → length (ran st ls room .text) ≤ room
-  unfolding ran
-  room-kept [] st room p = omega arith
-  room-kept (l ∷ ls) st room p =
-      go (leb eventRoom room && whole l) refl (room-kept ls (stateAfter st l) (room - length (textOf st l)) (kept st l p .0))
-    where
-      later : Ran
-      later = ran (stateAfter st l) ls (room - length (textOf st l))
+-- No more is used than there is.
+used-within : (st : State) (s : List ℕ) (room : ℕ) → ran st (linesOf s) room .used ≤ length s
+used-within =
+    runs (λ (st : State) (s : List ℕ) (room : ℕ) (r : Ran). r .used ≤ length s)
+    (λ st s room none. omega arith)
+    (λ st l s room later w first rec. omega (arith, length-append l s))
 
-      go : (c : Bool) → (leb eventRoom room && whole l) ≡ c → length (later .text) ≤ room - length (textOf st l)
-          → length (cond c (ranOn l (textOf st l) later) (record { state = st; used = 0; text = [] }) .text) ≤ room
-      go false c small = omega arith
-      go true c small =
-          let enough = leb-true eventRoom room (and-true (leb eventRoom room) (whole l) c .0) in
-          omega (arith, length-append (textOf st l) (later .text), kept st l p .1)
+whole-left : (s : List ℕ) (k : ℕ) → whole s ≡ true → hasEnd (drop k s) ≡ false → length s ≤ k
+whole-left [] k w n = omega arith
+whole-left (b ∷ bs) zero w n = true≢false (sym w ∙ open-end (b ∷ bs) n)
+whole-left (b ∷ []) (suc k) w n = omega arith
+whole-left (b ∷ (c ∷ cs)) (suc k) w n = omega (arith, whole-left (c ∷ cs) k w n)
+
+-- A text whose last byte is an LF is then used up.
+pub all-used : (st : State) (s : List ℕ) (room : ℕ) → whole s ≡ true → length (ran st (linesOf s) room .text) + eventRoom ≤ room
+    → ran st (linesOf s) room .used ≡ length s
+all-used st s room w enough =
+    omega (arith, used-within st s room, whole-left s (ran st (linesOf s) room .used) w (no-line-left st s room enough))
+
+-- Every text has such a room.
+pub enough-room : (st : State) (s : List ℕ) → (room : ℕ) × (length (ran st (linesOf s) room .text) + eventRoom ≤ room)
+enough-room st s =
+    let room = length (rest st (linesOf (s ++ []))) + eventRoom in
+    let r = ran st (linesOf s) room in
+    (room, omega (arith, ap length (pieces st s [] room), length-append (r .text) (rest (r .state) (linesOf (drop (r .used) s ++ [])))))

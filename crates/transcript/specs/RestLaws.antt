@@ -1,6 +1,6 @@
 -- What is still printed where a trace stands between two lines: `rest`, and how a line goes into it.
 use Prim.Native.Nat.{ℕ, zero, suc, _-_}
-use mathlib.Core.Path.{_≡_, refl, ap, ap₂, _∙_}
+use mathlib.Core.Path.{_≡_, refl, ap, _∙_}
 use mathlib.Core.Bool.{Bool, true, false, cond}
 use mathlib.Core.List.{List, [], _∷_, _++_, append-nil}
 use native.Mathlib.Omega.{arith}
@@ -30,7 +30,7 @@ abbrev pub after : State → Sorted → List (List ℕ) → List ℕ
 after st e ls = textBy st e ++ rest (stateBy st e) ls
 
 -- Where rows are awaited then, nothing yet.
-pub waits : (st : State) (e : Event) (j : ℕ) (spoiled : Bool) (ls : List (List ℕ))
+waits : (st : State) (e : Event) (j : ℕ) (spoiled : Bool) (ls : List (List ℕ))
     → after st (sortedAs e (suc j) spoiled) ls ≡ rest (waiting st (sortedAs e (suc j) spoiled)) ls
 waits st e j spoiled ls =
     ap (λ (b : Bool). cond b [] text ++ rest (cond b (waiting st x) (stepped st x (stepIn st x))) ls) (lt-ltb 0 (suc j) (omega arith))
@@ -40,13 +40,6 @@ waits st e j spoiled ls =
 
     text : List ℕ
     text = printed (nextEvent (st .events)) (stepIn st x) (marginAfter e (stepIn st x) (st .margin))
-
--- A line where a row is awaited.
-pub row-sorted : (l : Line) (j : ℕ) (spoiled : Bool) → sorted l (suc j) spoiled ≡ sortedRow l j spoiled
-unfolding sorted
-row-sorted l j spoiled =
-    let less : suc j - 1 ≡ j = omega arith in
-    ap₂ (λ (b : Bool) (i : ℕ). cond b (sortedRow l i spoiled) (sortedLine l)) (lt-ltb 0 (suc j) (omega arith)) less
 
 -- ---- a line that gets 19
 

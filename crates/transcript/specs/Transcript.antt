@@ -32,6 +32,11 @@ toldOf s k (h ∷ hs) =
     let t = stepFor s h in
     printed k t (marginOf (t .next)) ++ toldOf (t .next) (suc k) hs
 
+-- The replica that they leave.
+abbrev pub replicaAfter : Replica → List Happening → Replica
+replicaAfter s [] = s
+replicaAfter s (h ∷ hs) = replicaAfter (stepFor s h .next) hs
+
 -- "f may be `-`, meaning 1"
 abbrev pub faultyOf : Setup → ℕ
 faultyOf h = cond (h .dash) 1 (h .f)

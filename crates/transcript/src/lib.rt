@@ -1,4 +1,6 @@
 // What `trace` does with text: lines go in, and lines come out.
+ghost use mathlib.Core.Path.{_≡_};
+
 pub mod lines; // lines.rt: where a line ends
 mod sort; // sort.rt: what a line is, beside a request that waits for its rows
 mod print; // print.rt: the lines printed
@@ -22,6 +24,15 @@ pub struct State {
     // The front of the line that is being read was dropped: it is too long to be any.
     cut: bool,
     request: Request,
-    pub replica: Replica,
+    replica: Replica,
     rows: Rows,
+}
+
+impl State {
+    // The replica is handed out, and none can be put in: its margin would not be counted.
+    pub fn replica(self) -> Replica
+        ensures { λ r. ⌜ r ≡ self .replica ⌝ }
+    {
+        self.replica
+    }
 }
