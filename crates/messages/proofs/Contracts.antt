@@ -3,7 +3,6 @@ use borrow.Fn.World.{World}
 use denote.Ref.{now}
 use mathlib.Core.Path.{refl}
 use Rattle.base.specs.Contracts.{Exact, answers, answersWriting}
-use Rattle.messages.specs.Lines.{line}
 use Rattle.messages.specs.Reader.{readLine}
 use Rattle.messages.specs.Setup.{readSetup}
 use Rattle.messages.specs.Writer.{afterwards, written}
