@@ -61,5 +61,18 @@ fresh
 awk '/^new: / { print "new: " old; next } /^old: / { old = substr($0, 6) } { print }' crates/base/broken.txt >"$copy/crates/base/broken.txt"
 refuses 'a function broken by nothing' 'NOT REFUSED' broken.sh
 
+fresh
+rm "$copy/crates/base/rules.txt"
+refuses 'a library without rules.txt' 'there is no crates/base/rules.txt' rules.sh
+
+fresh
+printf '%s\n' 'name: none' 'why: nothing' 'file: specs/Choosing.antt' 'old: larger a b = cond (ltb a b) b a' \
+    'new: larger a b = cond (ltb a b) b a -- nothing' 'refused: specs/Choosing.antt larger-bounds' >"$copy/crates/base/rules.txt"
+refuses 'a rule that is not made wrong' 'NOT REFUSED' rules.sh
+sed -i 's/^new: .*/new: larger a b = cond (ltb a b) b c/' "$copy/crates/base/rules.txt"
+refuses 'a rule that is none' 'REFUSED FOR ANOTHER REASON' rules.sh
+sed -i -e 's/^new: .*/new: larger a b = cond (ltb a b) a b/' -e 's/^refused: .*/refused: specs\/RefusalLaws.antt first-lowest/' "$copy/crates/base/rules.txt"
+refuses 'a rule that another law refuses' 'REFUSED ELSEWHERE' rules.sh
+
 [ "$failed" -eq 0 ] || exit 1
 echo "tools tried: $tried"
