@@ -1,5 +1,5 @@
 #!/usr/bin/env bash
-# Every test: the layout of the sources, where each public contract is said; the proofs from nothing, the edits that must be refused, the
+# Every test: the layout of the sources, that each public function is held to one answer; the proofs from nothing, the edits that must be refused, the
 # programs; contracts, rules and functions broken on purpose; then `trace` and the library beside the second program.
 # Ends with 'N passed, 0 failed' where all is well, and with another line and a status that is not 0 where not.
 set -u
@@ -31,7 +31,8 @@ echo '== layout (rt fmt --check)'
 rt fmt --check || fail 'the files named above are not in the layout of rt fmt: run rt fmt'
 
 echo '== contracts: every public function stands in proofs/Contracts.antt (tools/contracts.sh)'
-bash tools/contracts.sh || fail 'the public functions named above are held to no answer'
+counted 'public functions held to one answer' contracts.sh
+held=$passed
 
 echo '== seats: a view becomes one by the leader rule alone (tools/seats-made.txt)'
 grep -rE '\bSeat\(' crates/*/src --include='*.rt' | sed 's/:  */: /' | LC_ALL=C sort | diff tools/seats-made.txt - || fail 'a seat is made in a new place (>): if not from a view, add it to tools/seats-made.txt'
@@ -41,6 +42,7 @@ rt ci 2>&1 | tee "$log"
 [ "${PIPESTATUS[0]}" -eq 0 ] || fail 'rt ci failed: what it printed above says where'
 passed=$(sed -n '$s/^\([0-9][0-9]*\) passed, 0 failed$/\1/p' "$log")
 [ -n "$passed" ] || fail 'rt ci did not end with its line of tests passed'
+passed=$((passed + held))
 
 echo '== contracts that say too little, functions left out (tools/hollow-contracts.txt, tools/contracts.sh)'
 counted 'hollow contracts refused' contracts.sh trials

@@ -1,6 +1,6 @@
 #!/usr/bin/env bash
 # Breaks every function once or more, many at a time, and has the prover refuse each by name: crates/NAME/broken.txt says how.
-#   bash tools/broken.sh [NAME...]     of these crates; else of all that crates.txt lists
+#   bash tools/broken.sh [NAME...]     of these crates; else of all
 # The crates must be proved (rt check). Ends with the number refused, and with a status that is not 0 where one was not.
 set -u
 cd "$(dirname "$0")/.." || exit 2
@@ -22,13 +22,14 @@ one() {
     return "$status"
 }
 
-# The crates that stand on the others are the largest: begun first, they do not hold up the end.
-[ $# -gt 0 ] || set -- $(sed -n 's/^\([a-z_0-9]*\):.*/\1/p' crates.txt | tac)
+[ $# -gt 0 ] || set -- $(bash tools/listed.sh)
 failed=0
 for crate in "$@"; do
-    [ -s "crates/$crate/broken.txt" ] || { echo "$crate: there is no crates/$crate/broken.txt, so nothing breaks its functions"; failed=1; }
+    grep -qs '^fn: ' "crates/$crate/broken.txt" || { echo "$crate: there is no block in crates/$crate/broken.txt"; failed=1; }
 done
 [ "$failed" -eq 0 ] || exit 1
+# Those with the most blocks are begun first, so that none of them is left alone at the end.
+set -- $(for crate in "$@"; do echo "$(grep -c '^fn: ' "crates/$crate/broken.txt") $crate"; done | sort -rn | cut -d' ' -f2)
 started=
 for crate in "$@"; do
     while [ "$(jobs -pr | wc -l)" -ge "${RT_JOBS:-$(nproc)}" ]; do sleep 1; done

@@ -20,8 +20,7 @@ function imported(line,    names, own) {
     else if (line ~ / as /) wrong("brings in a module under another name: " line)
     if (names ~ / World /) { if (line ~ /^use borrow\.Fn\.World\./) world += 1; else wrong("World is not the kit's: " line) }
     if (names ~ / Exact /) { if (line ~ laws) exact += 1; else wrong("Exact is not that of base: " line) }
-    if (names ~ / (answers|answersWriting|shows|writes|value) / && line !~ laws) wrong("an answer is not said in the words of base: " line)
-    if (names ~ / (seen|nothing) /) wrong("an answer is said in words that could hide it: " line)
+    if (names ~ / (gives|givesAnd|shows|becomes|value) / && line !~ laws) wrong("an answer is not said in the words of base: " line)
     if (names ~ / refl / && line !~ /^use mathlib\.Core\.Path\./) wrong("refl is not the kit's: " line)
 }
 
@@ -33,18 +32,37 @@ function statement(line,    words, path) {
     if (words[7] != "fn." path ".spec") wrong("speaks of two functions: " line)
     if (said[path] != "") wrong("says twice what " path " answers")
     said[path] = FNR
+    if (proof != "") wrong("the statement before has no proof")
     proof = "  " words[2] " κs a = refl"
+    said_of = "Exact w fn." path ".ended fn." path ".spec "
+    whole = substr(line, index(line, " : ") + 3)
+}
+
+# The answer is one term in brackets, and nothing follows it: a statement with an arrow behind would say nothing.
+function one_term(text,    i, c, open) {
+    if (text !~ /^\(λ κs /) return 0
+    for (i = 1; i <= length(text); i += 1) {
+        c = substr(text, i, 1)
+        if (c == "(") open += 1
+        if (c == ")") open -= 1
+        if (open == 0) return i == length(text)
+    }
+    return 0
 }
 
 function stated(line) {
     sub(/--.*/, "", line)
     sub(/ +$/, "", line)
     if (line == "") return
+    if (line ~ /\{-|-\}/) wrong("cannot be read: " line)
     if (line ~ /^use [^ ]+(\.\{[^{}]*\}| as fn)$/) imported(line)
     else if (line == "module _ (w : World) where") opened += 1
     else if (line ~ /^  pub [a-z0-9-]+-says : Exact w fn\./) statement(line)
-    else if (line ~ /^      [^ ]/) ; # the rest of a statement
-    else if (line == proof) proof = ""
+    else if (line ~ /^      [^ ]/ && proof != "") whole = whole substr(line, 6)
+    else if (line == proof) {
+        if (index(whole " ", said_of) != 1 || !one_term(substr(whole, length(said_of) + 1))) wrong("says more than an answer: " whole)
+        proof = ""
+    }
     else wrong("cannot be read: " line)
 }
 
@@ -54,18 +72,23 @@ function stated(line) {
 function module_of(path) {
     sub(/^.*\/src\//, "", path)
     sub(/\.rt$/, "", path)
-    sub(/(^|\/)(lib|mod)$/, "", path)
+    sub(/^lib$/, "", path)
+    if (path ~ /(^|\/)(lib|mod|main)$/) wrong("cannot be read: which module is this file?")
     gsub(/\//, ".", path)
     return path == "" ? "" : path "."
 }
 
-# Comments and texts have no functions in them.
-function bare(line) {
-    gsub(/b?"([^"\\]|\\.)*"/, " TEXT ", line)
-    gsub(/b'([^'\\]|\\[^'])[^']*'/, " BYTE ", line)
-    sub(/\/\/.*/, "", line)
-    if (line ~ /\/\*/) wrong("cannot be read: a comment of more than one line")
-    return line
+# Comments and texts have no functions in them. From left to right, since each may have the marks of the others in it.
+function bare(line,    out, part) {
+    while (match(line, /b?"([^"\\]|\\.)*"|b'([^'\\]|\\.[^']*)'|\/\/.*/)) {
+        part = substr(line, RSTART, RLENGTH)
+        out = out substr(line, 1, RSTART - 1) (part ~ /^\/\// ? "" : part ~ /"$/ ? " TEXT " : " BYTE ")
+        line = substr(line, RSTART + RLENGTH)
+    }
+    out = out line
+    if (out ~ /"|\/\*/) wrong("cannot be read: a text or a comment of more than one line")
+    if (out ~ /--|\{-|-\}/) wrong("cannot be read: a comment in a contract")
+    return out
 }
 
 function tokens(line) {
@@ -80,7 +103,7 @@ function token(t) {
     if (last == "fn") function_named(t)
     if (last == "struct" || last == "enum") declared(t)
     if (t == "{") { depth += 1; inside[depth] = block(before) }
-    if (t == "}") depth -= 1
+    if (t == "}") { depth -= 1; if (depth < 0) wrong("cannot be read: a brace that closes nothing") }
     if (t == "{" || t == "}" || t == ";" || t == "]") before = ""
     else before = before " " t
     last = t
@@ -92,6 +115,7 @@ function block(text) {
     if (text ~ /^ mod [a-z_0-9]+$/) return text
     if (text !~ /^ impl /) return ""
     if (text ~ / for /) wrong("cannot be read: impl .. for")
+    if (text !~ /^ impl( < [a-z_ ]+ >)? [A-Za-z_0-9]+( < [a-z_ ]+ >)?$/) wrong("cannot be read:" text)
     sub(/^ impl( <[^>]*>)? /, "", text)
     sub(/ .*/, "", text)
     return " impl " text
@@ -130,17 +154,23 @@ BEGIN {
 FILENAME ~ /\.antt$/ { stated($0); next }
 
 {
-    if (FILENAME != file) { depth = 0; before = ""; last = ""; file = FILENAME }
+    if (FILENAME != file) { closed(); depth = 0; before = ""; last = ""; file = FILENAME }
     tokens(bare($0))
 }
 
+function closed() {
+    if (depth != 0) wrong("cannot be read: the file before has a brace that nothing closes")
+}
+
 END {
+    closed()
     FILENAME = "crates/" crate "/proofs/Contracts.antt"
     if (alias != 1 || world != 1 || exact != 1 || opened != 1) wrong("does not have each of its four first things once: World, Exact, fn, the module over w")
     if (proof != "") wrong("the last statement has no proof")
     for (k = 1; k <= functions; k += 1) {
         path = of_type[k] == "" ? named[k] : substr(owner[of_type[k]], 4) named[k]
         if (said[path] == "") { printf "%s: %s is public, and proofs/Contracts.antt does not say what it answers\n", at[k], path; failed = 1 }
+        if (path in known) { printf "%s: two public functions are read as %s\n", at[k], path; failed = 1 }
         known[path] = 1
     }
     for (path in said) if (!(path in known)) { printf "%s: %s is no public function\n", FILENAME, path; failed = 1 }

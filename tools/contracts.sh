@@ -2,27 +2,23 @@
 # Every public function of every library stands in its proofs/Contracts.antt; and contracts that say too little are refused.
 #   bash tools/contracts.sh            looks at the crates
 #   bash tools/contracts.sh trials     tries tools/hollow-contracts.txt, each on a copy of crates/base
-# A trial is a block: `trial: ` its name, `refused: ` by whom (`names`: tools/contracts.awk, and then no prover is asked; `prover`: its first
-# error must stand in proofs/Contracts.antt), then of each `file: ` what is added at its end (`add: `) or replaced (`old: `, `new: `).
+# A trial is a block: `trial: ` its name, `refused: ` by whom, then of each `file: ` what is added at its end (`add: `) or replaced (`old: `,
+# `new: `). `refused: names: WORDS`: tools/contracts.awk says these words, and no prover is asked. `refused: prover`: its first error stands in
+# proofs/Contracts.antt.
 set -u
 cd "$(dirname "$0")/.." || exit 2
 
 # The public functions of the library NAME in the folder DIR.
 names() { # NAME DIR
     [ -f "$2/proofs/Contracts.antt" ] || { echo "$2: there is no proofs/Contracts.antt"; return 1; }
+    [ -z "$(find "$2" -type l)" ] || { echo "$2: there is a link in it, and nobody follows links"; return 1; }
     find "$2/src" -name '*.rt' | sort | xargs awk -v crate="$1" -f tools/contracts.awk "$2/proofs/Contracts.antt"
-}
-
-libraries() {
-    sed -n 's/^\([a-z_0-9]*\):.*/\1/p' crates.txt | while read -r crate; do
-        [ ! -f "crates/$crate/src/lib.rt" ] || echo "$crate"
-    done
 }
 
 if [ "${1:-}" != trials ]; then
     failed=0
     functions=0
-    for crate in $(libraries); do
+    for crate in $(bash tools/listed.sh libraries); do
         said=$(names "$crate" "crates/$crate") || { printf '%s\n' "$said"; failed=1; continue; }
         functions=$((functions + said))
     done
@@ -70,8 +66,12 @@ try() { # NAME
     said=$(names base "$dir")
     status=$?
     case $by in
-    names)
-        [ "$status" -ne 0 ] || echo "$1: every name is in its place: tools/contracts.awk lets it through"
+    'names: '?*)
+        [ "$status" -ne 0 ] || { echo "$1: every name is in its place: tools/contracts.awk lets it through"; return; }
+        case $said in
+        *"${by#names: }"*) ;;
+        *) echo "$1: tools/contracts.awk does not say '${by#names: }' but: $said" ;;
+        esac
         ;;
     prover)
         [ "$status" -eq 0 ] || { echo "$1: tools/contracts.awk refuses it already: $said"; return; }
@@ -82,7 +82,7 @@ try() { # NAME
         *) echo "$1: the first error does not stand in proofs/Contracts.antt: $first" ;;
         esac
         ;;
-    *) echo "$1: no line 'refused: names' or 'refused: prover'" ;;
+    *) echo "$1: no line 'refused: names: WORDS' or 'refused: prover'" ;;
     esac
 }
 

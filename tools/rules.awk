@@ -85,10 +85,23 @@ function change(b, p,    path, text, at, rest) {
     text = text_of(path)
     at = index(text, old_of[b, p])
     if (at == 0) stop(edit ": '" old_of[b, p] "' is not in " file_of[b, p])
+    look_at_place(b, file_of[b, p], substr(text, 1, at - 1) old_of[b, p])
     rest = substr(text, at + length(old_of[b, p]))
     if (index(rest, old_of[b, p]) > 0) stop(edit ": '" old_of[b, p] "' is more than once in " file_of[b, p])
     printf "%s%s%s", substr(text, 1, at - 1), new_of[b, p], rest > path
     close(path)
+}
+
+# The change lies in a definition: not in a signature, nor in a law that is to refuse it or falls by it.
+function look_at_place(b, path, upto,    lines, n, i, name) {
+    n = split(upto, lines, "\n")
+    if (lines[n] ~ /^(abbrev |unfoldable )?(pub )?[^ ]+ : /) stop(edit ": it changes the signature '" substr(lines[n], 1, 80) "'")
+    for (i = n; i > 0; i -= 1) if (lines[i] ~ /^[^ -]/) break
+    name = lines[i]
+    sub(/^(abbrev |unfoldable )?(pub )?/, "", name)
+    sub(/ .*/, "", name)
+    for (i = 1; i <= laws[b]; i += 1) if (law[b, i] == path " " name) stop(edit ": it changes the law " name " itself")
+    if (index(" " falls[b] " ", " " name " ")) stop(edit ": it changes the law " name " itself")
 }
 
 # ---- the prover's answer

@@ -1,6 +1,6 @@
 #!/usr/bin/env bash
 # Makes rules wrong, one at a time, and has a law or theorem refuse each: crates/NAME/rules.txt says how.
-#   bash tools/rules.sh [NAME...]     of these crates; else of all libraries that crates.txt lists
+#   bash tools/rules.sh [NAME...]     of these crates; else of all libraries
 # A rule is tried over the crate's types and specs alone: no code is in the way, so what refuses it is a theorem, and it takes seconds.
 # The crates must be proved (rt check). Ends with the number refused, and with a status that is not 0 where one was not.
 set -u
@@ -65,9 +65,9 @@ over() {
     running=0
 }
 
-[ $# -gt 0 ] || set -- $(sed -n 's/^\([a-z_0-9]*\):.*/\1/p' crates.txt | while read -r crate; do [ ! -f "crates/$crate/src/lib.rt" ] || echo "$crate"; done)
+[ $# -gt 0 ] || set -- $(bash tools/listed.sh libraries)
 for crate in "$@"; do
-    [ -s "crates/$crate/rules.txt" ] || { echo "$crate: there is no crates/$crate/rules.txt, so nothing makes its rules wrong"; exit 2; }
+    grep -qs '^name: ' "crates/$crate/rules.txt" || { echo "$crate: there is no rule in crates/$crate/rules.txt"; exit 2; }
     [ -e "target/rlib/$crate.rlib" ] || { echo "rules.sh: $crate is not proved: run rt check $crate first"; exit 2; }
 done
 

@@ -38,8 +38,10 @@ rm "$copy/tools/hollow-contracts.txt"
 refuses 'no trials of contracts' 'hollow-contracts.txt' contracts.sh trials
 : >"$copy/tools/hollow-contracts.txt"
 refuses 'an empty file of trials' 'has no trial' contracts.sh trials
-printf 'trial: none\nrefused: names\n' >"$copy/tools/hollow-contracts.txt"
+printf 'trial: none\nrefused: names: anything\n' >"$copy/tools/hollow-contracts.txt"
 refuses 'a trial that changes nothing' 'lets it through' contracts.sh trials
+printf 'trial: none\nrefused: names: anything\nfile: proofs/Contracts.antt\nadd: nonsense\n' >"$copy/tools/hollow-contracts.txt"
+refuses 'a trial that is refused for something else' 'does not say' contracts.sh trials
 printf 'trial: none\nrefused: prover\n' >"$copy/tools/hollow-contracts.txt"
 refuses 'a trial that changes nothing' 'the prover takes it' contracts.sh trials
 rm "$copy/crates/base/proofs/Contracts.antt"
@@ -47,7 +49,9 @@ refuses 'a library without Contracts.antt' 'there is no proofs/Contracts.antt' c
 
 fresh
 rm "$copy/crates/base/broken.txt"
-refuses 'a library without broken.txt' 'there is no crates/base/broken.txt' broken.sh
+refuses 'a library without broken.txt' 'there is no block in crates/base/broken.txt' broken.sh
+echo '# nothing' >"$copy/crates/base/broken.txt"
+refuses 'a broken.txt without a block' 'there is no block in crates/base/broken.txt' broken.sh
 
 fresh
 awk '/^fn: base::pick_flag/ { skip = 1 } /^$/ { skip = 0 } !skip' crates/base/broken.txt >"$copy/crates/base/broken.txt"
@@ -63,7 +67,9 @@ refuses 'a function broken by nothing' 'NOT REFUSED' broken.sh
 
 fresh
 rm "$copy/crates/base/rules.txt"
-refuses 'a library without rules.txt' 'there is no crates/base/rules.txt' rules.sh
+refuses 'a library without rules.txt' 'there is no rule in crates/base/rules.txt' rules.sh
+echo '# nothing' >"$copy/crates/base/rules.txt"
+refuses 'a rules.txt without a rule' 'there is no rule in crates/base/rules.txt' rules.sh
 
 fresh
 printf '%s\n' 'name: none' 'why: nothing' 'file: specs/Choosing.antt' 'old: larger a b = cond (ltb a b) b a' \
@@ -73,6 +79,12 @@ sed -i 's/^new: .*/new: larger a b = cond (ltb a b) b c/' "$copy/crates/base/rul
 refuses 'a rule that is none' 'REFUSED FOR ANOTHER REASON' rules.sh
 sed -i -e 's/^new: .*/new: larger a b = cond (ltb a b) a b/' -e 's/^refused: .*/refused: specs\/RefusalLaws.antt first-lowest/' "$copy/crates/base/rules.txt"
 refuses 'a rule that another law refuses' 'REFUSED ELSEWHERE' rules.sh
+sed -i -e 's/^refused: .*/refused: specs\/Choosing.antt larger-bounds/' -e '$a falls: first-lowest' "$copy/crates/base/rules.txt"
+refuses 'a theorem that does not fall' 'first-lowest is proved as before' rules.sh
+sed -i -e '/^falls: /d' -e 's/^old: .*/old: larger-bounds a b = /' -e 's/^new: .*/new: larger-bounds a b = nothing /' "$copy/crates/base/rules.txt"
+refuses 'an edit of the law itself' 'it changes the law larger-bounds itself' rules.sh
+sed -i -e 's/^old: .*/old: larger : ℕ → ℕ → ℕ/' -e 's/^new: .*/new: larger : ℕ → ℕ → Type 0/' "$copy/crates/base/rules.txt"
+refuses 'an edit of a type' 'it changes the signature' rules.sh
 
 [ "$failed" -eq 0 ] || exit 1
 echo "tools tried: $tried"

@@ -22,8 +22,8 @@ uint8_t luscarembo_setup(uint8_t n, uint8_t f, uint8_t seat, uint64_t entry_hi, 
 /* The events of a text: whole lines as `trace` takes them, a Q with its rows behind it. What `trace` would print of them, event
    numbers from 1, goes to the front of out (no fewer than 6,000 bytes, or nothing is done); the answer is how many bytes that is.
    Lines are taken while out has 6,000 bytes left: 6,000 for each line are always enough. A last line without LF is not taken,
-   and a Q whose rows do not all stand in the text is no event. The arrays are then the replica after the events of the lines that
-   were taken: all whole lines, where out has 6,000 bytes left. */
+   and a Q whose rows do not all stand in the text changes and prints nothing. The arrays are then the replica after the events of
+   the lines that were taken. These are all lines of a text that ends with LF, where out has 6,000 bytes left behind the answer. */
 size_t luscarembo_events(uint64_t scalars[22], uint64_t ack_entries[128], uint32_t ack_views[64],
                          uint64_t vote_entries[128], uint64_t vote_masks[64], uint32_t vote_views[64],
                          const uint8_t *text, size_t text_length, uint8_t *out, size_t out_length);

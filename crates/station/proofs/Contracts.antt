@@ -4,7 +4,7 @@ use denote.Ref.{now}
 use lib.ListN.{length}
 use mathlib.Core.List.{[], _∷_}
 use mathlib.Core.Path.{refl}
-use Rattle.base.specs.Contracts.{Exact, answersWriting, value}
+use Rattle.base.specs.Contracts.{Exact, givesAnd, value}
 use Rattle.messages.specs.Writer.{afterwards, lent, written}
 use Rattle.votes.specs.Rows.{numberOf}
 use Rattle.station.specs.Calls.{ranBy, selectedBy, selectedWords, setupBy}
@@ -25,7 +25,7 @@ module _ (w : World) where
   luscarembo-events-says κs a = refl
 
   pub luscarembo-select-says : Exact w fn.calls.luscarembo_select.ended fn.calls.luscarembo_select.spec
-      (λ κs (n, (f, (view, (text, _)))). answersWriting (numberOf (selectedBy n f view (now text))) (selectedWords (selectedBy n f view (now text))))
+      (λ κs (n, (f, (view, (text, _)))). givesAnd (numberOf (selectedBy n f view (now text))) (selectedWords (selectedBy n f view (now text))))
   luscarembo-select-says κs a = refl
 
   pub luscarembo-write-says : Exact w fn.calls.luscarembo_write.ended fn.calls.luscarembo_write.spec

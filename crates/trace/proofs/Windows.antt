@@ -13,7 +13,7 @@ use Rattle.transcript.specs.LineEnds.{behindLine}
 use Rattle.transcript.specs.TextLaws.{line-found}
 use Rattle.trace.specs.declared.Window.{Window}
 use Rattle.trace.specs.declared.Refilled.{Refilled}
-use Rattle.trace.specs.Windows.{Inside, unused, behindBy, fills, kept, refilledTo, ReadBehind}
+use Rattle.trace.specs.Windows.{Inside, inWindow, behindBy, fills, carried, refilledTo, ReadBehind}
 
 pub kept-at-most : (keep : Bool) (n r : ℕ) → r ≡ cond keep n 0 → r ≤ n
 kept-at-most true n r is = omega (arith, is)
@@ -39,26 +39,26 @@ module _ (w : Window) (buf : List ℕ) (inside : Inside w buf) where
   pub behind-inside : (used : ℕ) → Inside (behindBy w used) buf
   behind-inside used = (omega (arith, inside .0), inside .1)
 
-  unused-length : length (unused w buf) ≡ w .end - w .at
-  unused-length = length-take-le (w .end - w .at) (drop (w .at) buf) (omega (arith, length-drop (w .at) buf, inside .0, inside .1))
+  window-length : length (inWindow w buf) ≡ w .end - w .at
+  window-length = length-take-le (w .end - w .at) (drop (w .at) buf) (omega (arith, length-drop (w .at) buf, inside .0, inside .1))
 
-  kept-length : (full : Bool) → cond (not full) (w .end - w .at) 0 ≡ length (cond full [] (unused w buf))
-  kept-length true = refl
-  kept-length false = sym unused-length
+  carried-length : (full : Bool) → cond (not full) (w .end - w .at) 0 ≡ length (cond full [] (inWindow w buf))
+  carried-length true = refl
+  carried-length false = sym window-length
 
-  kept-front : (full : Bool) → take (cond (not full) (w .end - w .at) 0) (lent buf (unused w buf)) ≡ cond full [] (unused w buf)
-  kept-front true = refl
-  kept-front false = take-at (unused w buf) (drop (length (unused w buf)) buf) (w .end - w .at) unused-length
+  carried-front : (full : Bool) → take (cond (not full) (w .end - w .at) 0) (lent buf (inWindow w buf)) ≡ cond full [] (inWindow w buf)
+  carried-front true = refl
+  carried-front false = take-at (inWindow w buf) (drop (length (inWindow w buf)) buf) (w .end - w .at) window-length
 
   -- What was not used goes to the front of l, and `was` of it stays there when more is read.
   pub refills :
-      (left was end : ℕ) (l after : List ℕ) → left ≡ w .end - w .at → l ≡ lent buf (unused w buf) → length l ≡ length buf
+      (left was end : ℕ) (l after : List ℕ) → left ≡ w .end - w .at → l ≡ lent buf (inWindow w buf) → length l ≡ length buf
       → was ≡ cond (not (eqb left (length l))) left 0 → ReadBehind (take was l) end after
       → (_≡_ {A = Refilled} (record { end = end; full = eqb left (length l); over = eqb end was }) (refilledTo w buf end))
-      × ReadBehind (kept w buf) end after
+      × ReadBehind (carried w buf) end after
   refills left was end l after p q n k r =
       let full : eqb left (length l) ≡ fills w buf = ap₂ eqb p n in
       let stays : was ≡ cond (not (fills w buf)) (w .end - w .at) 0 = k ∙ ap₂ (λ (m : ℕ) (f : Bool). cond (not f) m 0) p full in (
-        ap₂ (λ (f o : Bool). record { end = end; full = f; over = o }) full (ap (eqb end) (stays ∙ kept-length (fills w buf))),
-        subst (λ (t : List ℕ). ReadBehind t end after) (ap₂ take stays q ∙ kept-front (fills w buf)) r,
+        ap₂ (λ (f o : Bool). record { end = end; full = f; over = o }) full (ap (eqb end) (stays ∙ carried-length (fills w buf))),
+        subst (λ (t : List ℕ). ReadBehind t end after) (ap₂ take stays q ∙ carried-front (fills w buf)) r,
       )

@@ -17,8 +17,8 @@ abbrev pub Inside : Window → List ℕ → Type 0
 Inside w buf = (w .at ≤ w .end) × (w .end ≤ length buf)
 
 -- The bytes of a window: they were read and not used yet.
-abbrev pub unused : Window → List ℕ → List ℕ
-unused w buf = take (w .end - w .at) (drop (w .at) buf)
+abbrev pub inWindow : Window → List ℕ → List ℕ
+inWindow w buf = take (w .end - w .at) (drop (w .at) buf)
 
 -- The window when some of its bytes were used, at most all.
 abbrev pub behindBy : Window → ℕ → Window
@@ -26,19 +26,19 @@ behindBy w used = record { at = w .at + min used (w .end - w .at); end = w .end 
 
 -- What `transcript` does with the bytes of a window.
 abbrev pub ranIn : State → Window → List ℕ → ℕ → Ran
-ranIn state w buf room = ran state (linesOf (unused w buf)) room
+ranIn state w buf room = ran state (linesOf (inWindow w buf)) room
 
 -- The window is the whole buffer: where that has to be read on, the line in it is too long to be any.
 abbrev pub fills : Window → List ℕ → Bool
 fills w buf = eqb (w .end - w .at) (length buf)
 
 -- What stands in front when more is read: what was not used, and nothing of a line that is too long.
-abbrev pub kept : Window → List ℕ → List ℕ
-kept w buf = cond (fills w buf) [] (unused w buf)
+abbrev pub carried : Window → List ℕ → List ℕ
+carried w buf = cond (fills w buf) [] (inWindow w buf)
 
 -- What a refill answers that ends at `end`: the input is over where nothing came behind what was kept.
 abbrev pub refilledTo : Window → List ℕ → ℕ → Refilled
-refilledTo w buf end = record { end = end; full = fills w buf; over = eqb end (length (kept w buf)) }
+refilledTo w buf end = record { end = end; full = fills w buf; over = eqb end (length (carried w buf)) }
 
 -- All that can be said of a read: what stood in front stays, and what came ends behind it, in the buffer.
 pub record ReadBehind (front : List ℕ) (end : ℕ) (after : List ℕ) : Type 0 where

@@ -8,7 +8,7 @@ ghost use lib.Dec.{ltb};
 ghost use lib.ListN.{length, take};
 ghost use Rattle.messages.specs.Writer.{lent};
 ghost use Rattle.transcript.specs.Feeding.{fedOf, cutState, lastText, within};
-ghost use Rattle.trace.specs.Windows.{Inside, unused, behindBy, ranIn, kept, refilledTo, ReadBehind, BehindFirst};
+ghost use Rattle.trace.specs.Windows.{Inside, inWindow, behindBy, ranIn, carried, refilledTo, ReadBehind, BehindFirst};
 use libc::STDERR_FILENO;
 use libc::STDIN_FILENO;
 use libc::STDOUT_FILENO;
@@ -65,7 +65,7 @@ fn read_more(buf: &mut [u8], end: usize) -> usize
 // What is left goes to the front. Answers where it then ends.
 fn shift(buf: &mut [u8], w: Window) -> usize
     requires { ⌜ Inside w (now buf) ⌝ }
-    ensures { λ r. ⌜ (r ≡ w .end - w .at) × (now (buf .exit) ≡ lent (now (buf .entry)) (unused w (now (buf .entry)))) ⌝ }
+    ensures { λ r. ⌜ (r ≡ w .end - w .at) × (now (buf .exit) ≡ lent (now (buf .entry)) (inWindow w (now (buf .entry)))) ⌝ }
 {
     let from = w.at;
     let end = w.end;
@@ -80,7 +80,7 @@ fn shift(buf: &mut [u8], w: Window) -> usize
 // One read behind what is left. A line that fills the window is too long to be any: its front is dropped.
 fn refill(buf: &mut [u8], w: Window) -> Refilled
     requires { ⌜ Inside w (now buf) ⌝ }
-    ensures { λ r. ⌜ (r ≡ refilledTo w (now (buf .entry)) (r .end)) × ReadBehind (kept w (now (buf .entry))) (r .end) (now (buf .exit)) ⌝ }
+    ensures { λ r. ⌜ (r ≡ refilledTo w (now (buf .entry)) (r .end)) × ReadBehind (carried w (now (buf .entry))) (r .end) (now (buf .exit)) ⌝ }
 {
     let left = shift(buf, w);
     let full = left == buf.len();

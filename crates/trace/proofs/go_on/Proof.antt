@@ -76,8 +76,8 @@ loop-less-2 : tie.Need-loop-less-2 Inv-loop μ-loop
 loop-less-2 c =
     let turn = c .before .before .before .before .before .before .before .before .before .before .before .before .before .before .before .before .before .before .before in
     let over = c .before .before .before .before .before .refill .result .over in
-    let kept = kept-at-most (not over) (turn .before .loop .turns - 1) (c .kept-if .result) (c .kept-if .ensures) in
-    omega (arith, kept, turn .loop-test .taken)
+    let carried = kept-at-most (not over) (turn .before .loop .turns - 1) (c .kept-if .result) (c .kept-if .ensures) in
+    omega (arith, carried, turn .loop-test .taken)
 
 loop-again-2 : tie.Need-loop-again-2 Inv-loop μ-loop
 loop-again-2 c =

@@ -19,8 +19,8 @@ read-more-requires c κs =
     let s = k .before .before .before in
     let fits = s .before .before .before .pre in
     let full = eqb (s .shift .result) (length (s .shift .last .0)) in
-    let kept = kept-at-most (not full) (s .shift .result) (k .kept-if .result) (k .kept-if .ensures) in
-    omega (arith, kept, s .shift .ensures .0, s .shift .kept .0, fits .0, fits .1)
+    let carried = kept-at-most (not full) (s .shift .result) (k .kept-if .result) (k .kept-if .ensures) in
+    omega (arith, carried, s .shift .ensures .0, s .shift .kept .0, fits .0, fits .1)
 
 same-length : tie.Need-same-length
 same-length c = search needs
