@@ -28,8 +28,11 @@ for crate in "$@"; do
     grep -qs '^fn: ' "crates/$crate/broken.txt" || { echo "$crate: there is no block in crates/$crate/broken.txt"; failed=1; }
 done
 [ "$failed" -eq 0 ] || exit 1
-# Those with the most blocks are begun first, so that none of them is left alone at the end.
-set -- $(for crate in "$@"; do echo "$(grep -c '^fn: ' "crates/$crate/broken.txt") $crate"; done | sort -rn | cut -d' ' -f2)
+# Those whose proof took longest are begun first, so that none of them is left alone at the end.
+seconds() {
+    sed -n 's/^rt: .* proved (\([0-9]*\) s)$/\1/p' "target/log/$1.out"
+}
+set -- $(for crate in "$@"; do echo "$(seconds "$crate") $crate"; done | sort -rn | sed 's/.* //')
 started=
 for crate in "$@"; do
     while [ "$(jobs -pr | wc -l)" -ge "${RT_JOBS:-$(nproc)}" ]; do sleep 1; done
