@@ -3,7 +3,7 @@
 use std::io::{self, Read, Write};
 
 use crate::fields::{put_decimal, put_entry};
-use crate::lines::{put, put_row, read, read_opening, read_row};
+use crate::lines::{put, put_row, read, read_opening, read_row, Opening};
 use crate::message::{Head, Message, Row};
 use crate::replica::{Answer, Replica};
 use crate::seats::ROOM;
@@ -11,9 +11,9 @@ use crate::source::Source;
 
 const OUTPUT: usize = 1 << 16;
 
-/// Looks on while a trace runs. An event of `None` is one with 19.
+/// Looks on while a trace runs. An opening or event of `None` is one with 19.
 pub trait Watch {
-    fn opened(&mut self, _number: u8) {}
+    fn opened(&mut self, _opening: Option<&Opening>, _number: u8) {}
     fn answered(
         &mut self,
         _replica: &Replica,
@@ -33,16 +33,17 @@ impl Watch for Unwatched {}
 pub fn trace<R: Read, W: Write, T: Watch>(input: R, output: W, watch: &mut T) -> io::Result<u64> {
     let mut source = Source::new(input);
     let mut printer = Printer::new(output);
-    let mut replica = match open(&mut source)? {
+    let opening = source.next_line()?.and_then(read_opening);
+    let begun = opening.as_ref().map_or(Err(19), Opening::setup);
+    watch.opened(opening.as_ref(), begun.as_ref().err().copied().unwrap_or(0));
+    let mut replica = match begun {
         Ok(replica) => replica,
         Err(number) => {
-            watch.opened(number);
             printer.print_bad_opening(number);
             printer.flush()?;
             return Ok(0);
         }
     };
-    watch.opened(0);
     let mut table = [Row::BLANK; ROOM];
     let mut margin = replica.margin();
     while let Some((event, rows)) = next_event(&mut source, &mut table)? {
@@ -61,13 +62,11 @@ pub fn trace<R: Read, W: Write, T: Watch>(input: R, output: W, watch: &mut T) ->
     Ok(printer.events)
 }
 
-/// The replica of the H line, or the number of a bad one.
-fn open<R: Read>(source: &mut Source<R>) -> io::Result<Result<Replica, u8>> {
-    let opening = source.next_line()?.and_then(read_opening);
-    Ok(match opening {
-        Some(opening) => Replica::setup(opening.n, opening.f, opening.seat, opening.own),
-        None => Err(19),
-    })
+impl Opening {
+    /// The replica of an H line, or setup's number.
+    fn setup(&self) -> Result<Replica, u8> {
+        Replica::setup(self.n, self.f, self.seat, self.own)
+    }
 }
 
 /// An event, `None` for one with 19, and its rows.

@@ -14,7 +14,7 @@ const ENTRIES: [Entry; 8] = [
     TWINS[1],
     *b"A1          \x7f\0\0\0",
     *b"A1          \x80\0\0\0",
-    *b"            \0\0\0\0",
+    *b"!           \0\0\0\0",
     *b"~~~~~~~~~~~~\xff\xff\xff\xff",
     *b"!\"#$%&'()*+,\n\t\r ",
     *b"Zebra-77    \xab\xcd\xef\x01",
@@ -34,8 +34,14 @@ pub fn few_entries(random: &mut Random) -> Vec<Entry> {
     entries
 }
 
-/// An entry whose serial is not well formed.
+/// Twelve blanks, booked as a device.
+pub const NO_SERIAL: Entry = *b"            \0\0\0\x01";
+
+/// An entry whose serial is not well formed, often twelve blanks.
 pub fn bad_entry(random: &mut Random) -> Entry {
+    if random.chance(25) {
+        return NO_SERIAL;
+    }
     let mut entry = *b"AB12        \0\0\0\x01";
     match random.below(3) {
         0 => entry[random.index(4)] = random.pick(&[0x00, 0x1f, 0x7f, 0x80, 0xff, 0x20]),

@@ -8,10 +8,10 @@ use lib.Bits.{bitAnd, bitOr, bitXor, and-block, or-block, xor-block, and-lt, or-
 use lib.Dec.{T, eqb, ltb, leb, lit<, lit≤, ltb→lt}
 use borrow.Author.Tests.{ltb-true, ltb-false, leb-true, leb-false, eqb-true, eqb-false, ne-eqb, le-leb, lt-leb}
 use Rattle.base.specs.Tests.{and-l, and-r, and-true}
-use Rattle.entry.specs.Entry.{all, blank, serial, wordBytes, wordOf}
+use Rattle.entry.specs.Entry.{all, blank, stretched, wordBytes, wordOf}
 use Rattle.entry.specs.Words.{isByte, word-back, word-below}
 use Rattle.entry.proofs.Lanes.{walk, each, Bytes, lanes, same-lanes, down}
-use Rattle.entry.proofs.Scan.{follows, scan, scan-serial}
+use Rattle.entry.proofs.Scan.{follows, scan, scan-stretched}
 
 -- ---- what the code computes in one byte x behind a byte p
 
@@ -206,10 +206,10 @@ module _ (w : ℕ) (h : w < 2 ^ 64) where
       let seen = low + 0x5f5f5f5f5f5f5f5f in
       let shown = bitAnd (low + 0x6060606060606060) (bitXor (bitOr (low + 0x101010101010101) w) 0x8080808080808080) in
       let last = bitOr (bitXor seen 0x8080808080808080) (seen / 256 + 0x8000000000000000) in
-      eqb (bitAnd (bitAnd shown last) 0x8080808080808080) 0x8080808080808080 ≡ serial (wordBytes w)
+      eqb (bitAnd (bitAnd shown last) 0x8080808080808080) 0x8080808080808080 ≡ stretched (wordBytes w)
   stretches-is =
       let all = and-is _ _ _ _ (and-is _ _ _ _ showns (or-is _ _ _ _ (xor-is _ _ _ _ sees tops) behinds)) tops in
       ap (λ (y : ℕ). eqb y 0x8080808080808080) (all .is)
       ∙ same-lanes (λ p x. bitAnd (marks p x) 128) (λ p x. 128) (all .small) (tops .small) (wordBytes w) 0x21 (lit< tt) (word-below w h) 0 0
       ∙ each-scan (wordBytes w) 0x21 (lit≤ tt) (lit≤ tt) (word-below w h)
-      ∙ scan-serial (wordBytes w)
+      ∙ scan-stretched (wordBytes w)

@@ -4,9 +4,9 @@ use mathlib.Core.Path.{_≡_, refl, sym, ap, _∙_}
 use mathlib.Core.Bool.{Bool, true, false, not, _&&_, _||_}
 use mathlib.Core.List.{List, [], _∷_}
 use lib.Dec.{leb}
-use borrow.Author.Tests.{eqb-true}
 use Rattle.base.specs.Tests.{or-alone}
-use Rattle.entry.specs.Entry.{all, visible, blank, serial}
+use Rattle.entry.specs.Entry.{all, visible, blank, stretched}
+use Rattle.entry.specs.Serial.{unseen}
 
 -- Whether x may stand in a serial, behind a blank or behind none.
 abbrev pub follows : Bool → ℕ → Bool
@@ -25,14 +25,10 @@ scan-blanks (x ∷ xs) = go (blank x) (scan-blanks xs)
     go true h = h
     go false h = refl
 
--- A blank is not visible.
-unseen : (x : ℕ) → blank x ≡ true → visible x ≡ false
-unseen x h = rw (eqb-true x 0x20 h)
-
-pub scan-serial : (s : List ℕ) → scan false s ≡ serial s
-scan-serial [] = refl
-scan-serial (x ∷ xs) = go (blank x) refl (scan-serial xs)
+pub scan-stretched : (s : List ℕ) → scan false s ≡ stretched s
+scan-stretched [] = refl
+scan-stretched (x ∷ xs) = go (blank x) refl (scan-stretched xs)
   where
-    go : (t : Bool) → blank x ≡ t → scan false xs ≡ serial xs → ((t || visible x) && scan t xs) ≡ ((visible x && serial xs) || (t && all blank xs))
+    go : (t : Bool) → blank x ≡ t → scan false xs ≡ stretched xs → ((t || visible x) && scan t xs) ≡ ((visible x && stretched xs) || (t && all blank xs))
     go true e h = scan-blanks xs ∙ rw (unseen x e)
-    go false e h = ap (λ (t : Bool). visible x && t) h ∙ sym (or-alone (visible x && serial xs))
+    go false e h = ap (λ (t : Bool). visible x && t) h ∙ sym (or-alone (visible x && stretched xs))

@@ -10,11 +10,12 @@ use lib.ListN.{take, drop}
 use Rattle.base.specs.Tests.{true≢false, and-true, and-assoc}
 use Rattle.text.specs.DigitLaws.{more-off}
 use Rattle.entry.specs.declared.Entry.{Entry}
-use Rattle.entry.specs.Entry.{all, visible, blank, serial, wellFormed, lowBytes, wordBytes, wordOf}
+use Rattle.entry.specs.Entry.{all, visible, blank, stretched, wellFormed, lowBytes, wordBytes, wordOf}
 use Rattle.entry.specs.Hex.{IsEntry}
 use Rattle.entry.specs.Laws.{all-append}
+use Rattle.entry.specs.Serial.{shown-first}
 use Rattle.entry.specs.Words.{isByte, all-join, word-back, word-below, word-made}
-use Rattle.entry.proofs.Scan.{follows, scan, scan-serial}
+use Rattle.entry.proofs.Scan.{follows, scan, scan-stretched}
 
 -- Whether a blank stands before what follows.
 abbrev behind : Bool → List ℕ → Bool
@@ -36,12 +37,12 @@ scan-on x xs b h = let t = and-true (follows b x) (scan (blank x) xs) h in ap₂
     first false false k = k
 
 -- Two stretches that share one that is not empty.
-windows : (xs : List ℕ) (y : ℕ) (ys zs : List ℕ) → (serial (xs ++ (y ∷ ys)) && serial ((y ∷ ys) ++ zs)) ≡ serial (xs ++ ((y ∷ ys) ++ zs))
+windows : (xs : List ℕ) (y : ℕ) (ys zs : List ℕ) → (stretched (xs ++ (y ∷ ys)) && stretched ((y ∷ ys) ++ zs)) ≡ stretched (xs ++ ((y ∷ ys) ++ zs))
 windows xs y ys zs =
-    ap₂ _&&_ (sym (scan-serial (xs ++ (y ∷ ys))) ∙ scan-append xs (y ∷ ys) false) (sym (scan-serial ((y ∷ ys) ++ zs)) ∙ scan-append (y ∷ ys) zs false)
+    ap₂ _&&_ (sym (scan-stretched (xs ++ (y ∷ ys))) ∙ scan-append xs (y ∷ ys) false) (sym (scan-stretched ((y ∷ ys) ++ zs)) ∙ scan-append (y ∷ ys) zs false)
     ∙ join (scan false xs) (scan (behind false xs) (y ∷ ys)) (scan false (y ∷ ys)) (scan (behind (blank y) ys) zs) (scan-on y ys (behind false xs))
     ∙ sym (scan-append xs ((y ∷ ys) ++ zs) false ∙ ap (λ (t : Bool). scan false xs && t) (scan-append (y ∷ ys) zs (behind false xs)))
-    ∙ scan-serial (xs ++ ((y ∷ ys) ++ zs))
+    ∙ scan-stretched (xs ++ ((y ∷ ys) ++ zs))
   where
     join : (a b c d : Bool) → (b ≡ true → c ≡ true) → ((a && b) && (c && d)) ≡ (a && (b && d))
     join false b c d h = refl
@@ -98,8 +99,12 @@ middle-room h l j =
     omega arith
 
 pub two-windows : (e : Entry) → IsEntry e
-    → (serial (wordBytes (e .hi)) && serial (wordBytes (e .hi % 0x100000000 * 0x100000000 + e .lo / 0x100000000))) ≡ wellFormed e
+    → (not (blank (e .hi / 256 ^ 7))
+    && (stretched (wordBytes (e .hi)) && stretched (wordBytes (e .hi % 0x100000000 * 0x100000000 + e .lo / 0x100000000))))
+    ≡ wellFormed e
 unfolding wellFormed
 two-windows e i =
-    ap (λ (s : List ℕ). serial (wordBytes (e .hi)) && serial s) (middle (e .hi) (e .lo) (i .hi) (i .lo))
-    ∙ windows (take 4 (wordBytes (e .hi))) (e .hi / 256 ^ 3 % 256) (drop 5 (wordBytes (e .hi))) (take 4 (wordBytes (e .lo)))
+    ap (λ (t : Bool). not (blank (e .hi / 256 ^ 7)) && t)
+    (ap (λ (s : List ℕ). stretched (wordBytes (e .hi)) && stretched s) (middle (e .hi) (e .lo) (i .hi) (i .lo))
+    ∙ windows (take 4 (wordBytes (e .hi))) (e .hi / 256 ^ 3 % 256) (drop 5 (wordBytes (e .hi))) (take 4 (wordBytes (e .lo))))
+    ∙ shown-first (e .hi / 256 ^ 7) (lowBytes 7 (e .hi) ++ take 4 (wordBytes (e .lo)))

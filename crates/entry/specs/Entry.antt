@@ -42,10 +42,15 @@ visible x = leb 0x21 x && leb x 0x7E
 abbrev pub blank : ℕ → Bool
 blank x = eqb x 0x20
 
--- "bytes 0x21 to 0x7E, then only 0x20 to the end; either stretch may be missing"
+-- "bytes 0x21 to 0x7E, then only 0x20 to the end": here either stretch may be missing.
+abbrev pub stretched : List ℕ → Bool
+stretched [] = true
+stretched (x ∷ xs) = (visible x && stretched xs) || all blank (x ∷ xs)
+
+-- 02, Two: "at least one byte of 0x21 to 0x7E must come first"
 abbrev pub serial : List ℕ → Bool
-serial [] = true
-serial (x ∷ xs) = (visible x && serial xs) || all blank (x ∷ xs)
+serial [] = false
+serial (x ∷ xs) = visible x && stretched xs
 
 unfoldable pub wellFormed : Entry → Bool
 wellFormed e = serial (serialOf e)

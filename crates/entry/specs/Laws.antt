@@ -8,7 +8,7 @@ use lib.Dec.{T, eqb, ltb, not-T, T-not}
 use lib.ListN.{length, take, drop, replicate, length-take, length-drop, take-append-drop}
 use Rattle.base.specs.Tests.{and-l, and-r, and-i, and-alone, is-true, same-test}
 use Rattle.entry.specs.declared.Entry.{Entry}
-use Rattle.entry.specs.Entry.{all, wordBytes, bytesOf, serialLength, serialOf, codeOf, serial, wellFormed, sameBytes, same, less}
+use Rattle.entry.specs.Entry.{all, blank, wordBytes, bytesOf, serialLength, serialOf, codeOf, serial, wellFormed, sameBytes, same, less}
 use Rattle.entry.specs.Entry.{ofWords, entryOf}
 use Rattle.entry.specs.Flags.{last-step}
 use Rattle.entry.specs.Order.{same-lists, list-same, list-irrefl, list-trans, list-total}
@@ -105,3 +105,14 @@ longer = entryOf (0x41 ∷ 0x31 ∷ 0x32 ∷ replicate 9 0x20 ++ (0x20 ∷ 0x78 
 pub different : (wellFormed shorter ≡ true) × (wellFormed longer ≡ true) × (same shorter longer ≡ false)
 unfolding wellFormed same
 different = (refl, refl, refl)
+
+-- A device needs a serial: twelve blanks are none, and one visible byte with eleven blanks is the shortest.
+abbrev pub unnamed : Entry
+unnamed = entryOf (replicate 12 0x20 ++ (0x00 ∷ 0x00 ∷ 0x00 ∷ 0x01 ∷ []))
+
+abbrev pub shortest : Entry
+shortest = entryOf (0x21 ∷ replicate 11 0x20 ++ (0x00 ∷ 0x00 ∷ 0x00 ∷ 0x01 ∷ []))
+
+pub one-byte-needed : (all blank (serialOf unnamed) ≡ true) × (wellFormed unnamed ≡ false) × (wellFormed shortest ≡ true)
+unfolding wellFormed
+one-byte-needed = (refl, refl, refl)

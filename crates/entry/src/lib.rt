@@ -1,6 +1,6 @@
 // The 16-byte entry, held as two big-endian words.
 ghost use mathlib.Core.Path.{_≡_};
-ghost use Rattle.entry.specs.Entry.{zeroEntry, wordBytes, bytesOf, serial, same, less, wellFormed};
+ghost use Rattle.entry.specs.Entry.{zeroEntry, wordBytes, bytesOf, stretched, same, less, wellFormed};
 
 pub mod table; // table.rt: one entry a seat
 pub mod hex; // hex.rt: its text in a line
@@ -65,7 +65,7 @@ const TOPS: u64 = 0x8080808080808080;
 // 128 - x is added: no sum leaves its byte, and its top bit tells whether they are x or more. A visible byte stands behind another,
 // or is the first.
 fn stretches(w: u64) -> bool
-    ensures { λ r. ⌜ r ≡ serial (wordBytes w) ⌝ }
+    ensures { λ r. ⌜ r ≡ stretched (wordBytes w) ⌝ }
 {
     let low = w & 0x7f7f7f7f7f7f7f7f;
     let seen = low + 0x5f5f5f5f5f5f5f5f;
@@ -74,10 +74,11 @@ fn stretches(w: u64) -> bool
     shown & ((seen ^ TOPS) | behind) & TOPS == TOPS
 }
 
-// The serial in two words, bytes 0 to 7 and bytes 4 to 11: each two neighbours stand in one of them.
+// The first byte is no blank, so a visible one. The serial in two words, bytes 0 to 7 and bytes 4 to 11: each two neighbours stand in one
+// of them.
 pub fn well_formed(e: Entry) -> bool
     ensures { λ r. ⌜ r ≡ wellFormed e ⌝ }
 {
     let middle = e.hi % 0x100000000 * 0x100000000 + e.lo / 0x100000000;
-    stretches(e.hi) & stretches(middle)
+    (e.hi / 0x100000000000000 != 0x20) & (stretches(e.hi) & stretches(middle))
 }

@@ -5,6 +5,7 @@ pub mod Confirmation
 pub mod Delivery
 pub mod EveryRun
 pub mod FairSteps
+pub mod Formed
 pub mod Happenings
 pub mod Held
 pub mod Histories

@@ -28,13 +28,13 @@ use Rattle.votes.specs.Claims.{Claim, Claims, TableClaims, Covered}
 use Rattle.votes.specs.Safety.{selection-safe}
 
 -- ---- an answer that is a choice was not refused
-choice-taken : (number : ℕ) (s c : Choice) → answered number (Selected.Chosen s) ≡ Selected.Chosen c → (number ≡ 0) × (s ≡ c)
+pub choice-taken : (number : ℕ) (s c : Choice) → answered number (Selected.Chosen s) ≡ Selected.Chosen c → (number ≡ 0) × (s ≡ c)
 choice-taken number s c e =
     let zero-number : number ≡ 0 = sym (answered-number number s) ∙ ap numberOf e in
     let same = answered-taken number (Selected.Chosen s) zero-number ∙ e in
     (zero-number, cc)
 
-call-first : (n f : ℕ) (v : View) (breaks : Bool) → rowsNumber n f v breaks ≡ 0 → (callNumber n f v ≡ 0) × (breaks ≡ false)
+pub call-first : (n f : ℕ) (v : View) (breaks : Bool) → rowsNumber n f v breaks ≡ 0 → (callNumber n f v ≡ 0) × (breaks ≡ false)
 call-first n f v breaks e = elim (ℕ-discrete (callNumber n f v) 0) [
   | yes z ↦ (z, unbroken breaks (sym (rows-taken n f v breaks z) ∙ e))
   | no z ↦ absurd (z (sym (rows-refused n f v breaks z) ∙ e))
@@ -44,7 +44,7 @@ call-first n f v breaks e = elim (ℕ-discrete (callNumber n f v) 0) [
     unbroken true z = absurd (omega arith)
     unbroken false z = refl
 
-unbroken-sound : (n f : ℕ) (v : View) (rows : List Row) → broken n f v rows ≡ false → T (allSound n f v rows)
+pub unbroken-sound : (n f : ℕ) (v : View) (rows : List Row) → broken n f v rows ≡ false → T (allSound n f v rows)
 unbroken-sound n f v rows e =
     passes (allSound n f v rows) (or-false (not (rising n 0 rows)) _ (or-false (ltb n (length rows)) _ e .1) .1)
   where

@@ -1,6 +1,7 @@
 pub mod Answers
 pub mod Claims
 pub mod Examples
+pub mod Formed
 pub mod Gather
 pub mod History
 pub mod Request

@@ -16,7 +16,7 @@ use crate::wilder;
 
 /// The same replica in the model and in the library.
 #[derive(Clone)]
-struct Pair {
+pub struct Pair {
     model: Replica,
     arrays: Arrays,
     /// Whether the library's words have bits that do not count. It may keep or clear these.
@@ -33,13 +33,11 @@ struct Call<'a> {
 }
 
 pub fn check(random: &mut Random, asked: &mut Asked) -> Result<(), String> {
-    let model = wilder::replica(random);
-    let mut arrays = Arrays::of(&model);
-    let high_bits = random.chance(10);
-    if high_bits {
-        arrays.add_high_bits(random);
+    let mut pair = Pair::new(wilder::replica(random));
+    if random.chance(10) {
+        pair.high_bits = true;
+        pair.arrays.add_high_bits(random);
     }
-    let pair = Pair { model, arrays, high_bits };
     check_one_by_one(random, pair.clone(), asked)?;
     check_text(random, pair, asked)
 }
@@ -109,8 +107,12 @@ fn room(random: &mut Random, ends: &[usize]) -> usize {
 }
 
 impl Pair {
+    pub fn new(model: Replica) -> Pair {
+        Pair { arrays: Arrays::of(&model), model, high_bits: false }
+    }
+
     /// Gives both the same text and compares what they print and the replicas afterwards.
-    fn ask(&mut self, random: &mut Random, text: &[u8], room: usize, asked: &mut Asked) -> Result<Printed, String> {
+    pub fn ask(&mut self, random: &mut Random, text: &[u8], room: usize, asked: &mut Asked) -> Result<Printed, String> {
         let before = self.model.clone();
         let printed = model::events(&mut self.model, text, room, |seen| coverage::count(&mut asked.cells, seen));
         let mut expected = pattern(random, room + BEHIND);

@@ -11,6 +11,7 @@ mod ffi;
 mod fitting;
 mod model;
 mod selection;
+mod serials;
 mod setup;
 mod wilder;
 mod writer;
@@ -29,6 +30,9 @@ const USAGE: &str = "usage: library [--seed N] [--count N]";
 
 /// Rounds of questions where no number is given.
 const COUNT: u64 = 150_000;
+
+/// The questions that are written down.
+const FIXED: [fn(&mut Asked) -> Result<(), String>; 2] = [setup::check, serials::check];
 
 type Check = fn(&mut Random, &mut Asked) -> Result<(), String>;
 
@@ -57,9 +61,11 @@ fn command() -> Result<bool, String> {
 fn run(seed: u64, count: u64) -> bool {
     let mut asked = Asked { cells: Cells::default(), calls: 0 };
     let mut differing = 0;
-    if let Err(difference) = setup::check(&mut asked) {
-        println!("library: DIFFERENCE in {difference}");
-        differing += 1;
+    for check in FIXED {
+        if let Err(difference) = check(&mut asked) {
+            println!("library: DIFFERENCE in {difference}");
+            differing += 1;
+        }
     }
     for (place, (check, rounds)) in (0..).zip(SORTS) {
         let seed = seed.wrapping_add(place);
@@ -84,7 +90,7 @@ fn finish(asked: &Asked, seed: u64, differing: usize) -> bool {
     if differing > 0 {
         println!(
             "library: {calls} calls, seed {seed}, differences in {differing} of {} sorts of questions",
-            1 + SORTS.len()
+            FIXED.len() + SORTS.len()
         );
         return false;
     }

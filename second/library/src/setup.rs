@@ -8,9 +8,10 @@ use crate::asked::Asked;
 use crate::cells::SETUP;
 use crate::ffi;
 
-const ENTRIES: [Entry; 5] = [
+const ENTRIES: [Entry; 6] = [
     *b"A1          \0\0\0\x01",
     *b"            \xff\xff\xff\xff",
+    *b"~           \xff\xff\xff\xff",
     *b"!~!~!~!~!~!~\x80 \t\n",
     *b"A 1         \0\0\0\x01",
     [0; 16],

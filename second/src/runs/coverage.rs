@@ -2,13 +2,15 @@
 
 use std::collections::BTreeMap;
 
-use crate::entry::{well_formed, Entry};
+use crate::entry::{no_serial, shortest_serial, well_formed, Entry};
+use crate::lines::Opening;
 use crate::message::{Head, Message, Row};
 use crate::replica::{Acknowledged, Answer, Replica};
 use crate::runs::cells::{Cell, Cells};
 use crate::seats::{leader, seats_below};
 use crate::selection::{select, votes_of, Choice, Selection};
 use crate::trace::Watch;
+use crate::values::TWINS;
 use crate::vote::Vote;
 
 pub struct Coverage<'a> {
@@ -81,6 +83,7 @@ impl<'a> Coverage<'a> {
         reasons.extend((!verified).then_some(Cell::VoteMark));
         if let [reason] = reasons[..] {
             self.cells.add(reason);
+            self.cells.add_if(reason == Cell::VoteEntry && no_serial(&entry), Cell::NoSerialVote);
         }
     }
 
@@ -123,6 +126,8 @@ impl<'a> Coverage<'a> {
             [reason] => self.cells.add(reason),
             _ => self.cells.add_if(many, Cell::OnlyMany),
         }
+        let with_serials = rows.iter().all(|row| with_serial(row.vote).is_valid(n, f, view));
+        self.cells.add_if(reasons == [Cell::OnlyVote] && with_serials, Cell::NoSerialRow);
     }
 
     fn selected(&mut self, replica: &Replica, rows: &[Row], number: u8) {
@@ -141,6 +146,27 @@ impl<'a> Coverage<'a> {
         });
         let q = highest_view(votes_of(rows)).map(|view| leader(view, replica.n));
         self.cells.add_if(step == 5 && rows.iter().any(|row| Some(row.head.seat) == q), Cell::RequestLiar);
+    }
+
+    /// Twelve blanks, and the shortest serial, in an event's own entry and in its votes.
+    fn serials(&mut self, event: &Message, rows: &[Row], number: u8) {
+        let (entry, none, shortest) = match event {
+            Message::Proposal { entry, .. } => (entry, Cell::NoSerialProposal, Cell::ShortestProposal),
+            Message::Acknowledgement { entry, .. } => {
+                (entry, Cell::NoSerialAcknowledgement, Cell::ShortestAcknowledgement)
+            }
+            // Its 14 is counted among the reasons for one.
+            Message::Vote(row) => {
+                return self.cells.add_if(number == 0 && shortest_serial(&row.vote.entry), Cell::ShortestVote);
+            }
+            Message::Request { entry, .. } => (entry, Cell::NoSerialRequest, Cell::ShortestRequest),
+            Message::Confirmation { entry, .. } => (entry, Cell::NoSerialConfirmation, Cell::ShortestConfirmation),
+            Message::Start | Message::Enter { .. } => return,
+        };
+        self.cells.add_if(number == 10 && no_serial(entry), none);
+        self.cells.add_if(number == 0 && shortest_serial(entry), shortest);
+        let row = rows.iter().any(|row| row.vote.cast && shortest_serial(&row.vote.entry));
+        self.cells.add_if(number == 0 && row, Cell::ShortestRow);
     }
 
     fn sent(&mut self, replica: &Replica, event: &Message, sent: &Message) {
@@ -182,8 +208,12 @@ impl<'a> Coverage<'a> {
 }
 
 impl Watch for Coverage<'_> {
-    fn opened(&mut self, number: u8) {
+    fn opened(&mut self, opening: Option<&Opening>, number: u8) {
         self.cells.number(8, number);
+        if let Some(Opening { own, .. }) = opening {
+            self.cells.add_if(number == 4 && no_serial(own), Cell::NoSerialOpening);
+            self.cells.add_if(number == 0 && shortest_serial(own), Cell::ShortestOpening);
+        }
     }
 
     fn answered(&mut self, replica: &Replica, event: Option<&Message>, rows: &[Row], answer: &Answer, margin: i32) {
@@ -198,12 +228,24 @@ impl Watch for Coverage<'_> {
             Some(Message::Request { head, .. }) => self.answered_request(replica, head, rows, number),
             _ => {}
         }
+        if let Some(event) = event {
+            self.serials(event, rows, number);
+        }
         if let (Some(event), Some(sent)) = (event, &answer.sent) {
             self.sent(replica, event, sent);
         }
         let own = event.and_then(Message::head).is_some_and(|head| head.seat == replica.seat);
         self.cells.add_if(own && number == 0, Cell::OwnMessage);
         self.margin(margin);
+    }
+}
+
+/// The vote as it would be for a device, where it is for twelve blanks.
+fn with_serial(vote: Vote) -> Vote {
+    if no_serial(&vote.entry) {
+        Vote { entry: TWINS[0], ..vote }
+    } else {
+        vote
     }
 }
 

@@ -3,6 +3,8 @@
 use crate::random::Random;
 
 const OWN: &str = "41312020202020202020202000000001";
+const SHORTEST: &str = "7e202020202020202020202000000001";
+const NO_SERIAL: &str = "20202020202020202020202000000001";
 
 /// Openings that are not well formed: 19. The last piece of some is cut off before its LF.
 const MALFORMED: [&str; 34] = [
@@ -76,6 +78,6 @@ fn numbers(random: &mut Random) -> String {
         1 => random.between(0, 99),
         _ => random.below(n.max(1)),
     };
-    let own = if random.chance(70) { OWN } else { "41203120202020202020202000000001" };
+    let own = random.pick(&[OWN, OWN, SHORTEST, NO_SERIAL, "41203120202020202020202000000001"]);
     format!("H\t{n}\t{f}\t{seat}\t{own}\n")
 }

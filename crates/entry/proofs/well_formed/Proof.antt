@@ -1,5 +1,7 @@
-use mathlib.Core.Bool.{_&&_}
+use Prim.Native.Nat.{_/_}
+use mathlib.Core.Bool.{Bool, not, _&&_}
 use mathlib.Core.Path.{ap₂, _∙_}
+use Rattle.entry.specs.Entry.{blank}
 use Rattle.entry.proofs.Windows.{middle-room, two-windows}
 use borrow.Author.Needs.{needs}
 use Rattle.entry.proofs.well_formed.Statement.{statement}
@@ -19,8 +21,9 @@ stretches-requires-2 c κs = search needs
 
 returns : tie.Need-returns
 returns c =
-    let e = c .before .before .before .before .args .e in
-    ap₂ _&&_ (c .before .stretches .ensures) (c .stretches2 .ensures) ∙ two-windows e (record { hi = search needs; lo = search needs })
+    let e = c .before .before .before .before .before .args .e in
+    ap₂ (λ (s t : Bool). not (blank (e .hi / 0x100000000000000)) && (s && t)) (c .before .stretches .ensures) (c .stretches2 .ensures)
+    ∙ two-windows e (record { hi = search needs; lo = search needs })
 
 pub well-formed-spec : {M : Type 1} → statement M
 well-formed-spec =

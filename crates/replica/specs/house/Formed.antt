@@ -1,0 +1,145 @@
+-- 02, Two: "Receiving found twelve blanks booked as a device." No event is taken that names an entry which is not well formed, none decides
+-- one, and no correct seat ever reports one.
+use Prim.Native.Nat.{ℕ}
+use mathlib.Core.Path.{_≡_, refl, sym, _∙_, subst}
+use mathlib.Core.Bool.{Bool, true, false, not, _&&_, cond}
+use mathlib.Core.List.{List, _++_}
+use mathlib.Core.Option.{Option}
+use lib.Dec.{T, eqb}
+use mir.Facts.{T-not-not}
+use borrow.Author.Tests.{eqb-true, eqb-false}
+use Rattle.base.specs.Refusal.{Refusals, first}
+use Rattle.base.specs.RefusalLaws.{Clear, clear, clear-behind, under, unless}
+use Rattle.base.specs.Tests.{and-i, true-is, false-is, true≢false}
+use Rattle.entry.specs.declared.Entry.{Entry}
+use Rattle.entry.specs.Entry.{all, blank, serialOf, wellFormed}
+use Rattle.entry.specs.Serial.{blank-not-formed}
+use Rattle.seats.specs.declared.Seat.{Seat}
+use Rattle.votes.specs.declared.Row.{Row}
+use Rattle.votes.specs.Vote.{valid}
+use Rattle.votes.specs.Request.{unfit}
+use Rattle.votes.specs.Formed.{formedVote, formedRows, vote-formed, fit-formed}
+use Rattle.messages.specs.declared.Message.{Message}
+use Rattle.messages.specs.declared.Message.the-variants.{Start, Enter, Propose, Acknowledge, Cast, Ask, Confirm}
+use Rattle.replica.specs.declared.Replica.{Replica}
+use Rattle.replica.specs.declared.Decided.{Decided}
+use Rattle.replica.specs.declared.Step.{Step}
+use Rattle.replica.specs.Ordered.{Rises}
+use Rattle.replica.specs.Refusals.{setupRefusals}
+use Rattle.replica.specs.Replica.{ownRefusals, numberFor, fresh, blank as blankReplica}
+use Rattle.replica.specs.Steps.{answered, quiet, refused, setupStep, step}
+use Rattle.replica.specs.Steps.{startStep, enterStep, proposeStep, acknowledgeStep, castStep, askStep, confirmStep}
+use Rattle.replica.specs.house.ClaimLaws.{Each, each-in, each-both}
+use Rattle.replica.specs.house.Invariant.{placed-all}
+use Rattle.replica.specs.house.Outcomes.{refusalsOf, Taken}
+use Rattle.replica.specs.house.Outcomes.{Outcome, refuse, start, enter, accept, note, decide, fill, ask, confirm, add, propose, outcome}
+use Rattle.replica.specs.house.Runs.{Members, begun, reporting, reportsOf, Reported, Run, nobody, begins, takes}
+
+-- ---- an event that is taken
+
+-- "wherever 01 asks for a well-formed entry": 10 of P, A, Q and C, 14 of a V, 15 of a Q's rows.
+abbrev pub formed : Message → List Row → Bool
+formed Start rows = true
+formed (Enter v) rows = true
+formed (Propose p) rows = wellFormed (p .entry)
+formed (Acknowledge a) rows = wellFormed (a .entry)
+formed (Cast r) rows = formedVote (r .vote)
+formed (Ask q) rows = wellFormed (q .entry) && formedRows rows
+formed (Confirm c) rows = wellFormed (c .entry)
+
+-- A test whose failure is refused under this number passed.
+passed : (k : ℕ) (b : Bool) (rs : Refusals) → under k rs ≡ not b → Clear rs → T b
+passed k b rs e c = T-not-not b (subst (λ x. T (not x)) e (unless k rs c))
+
+module _ (s : Replica) (rows : List Row) where
+  named-formed : (m : Message) → Taken s m rows → T (formed m rows)
+  named-formed Start c = tt
+  named-formed (Enter v) c = tt
+  named-formed (Propose p) c = passed 10 (wellFormed (p .entry)) (refusalsOf s (Propose p) rows) refl c
+  named-formed (Acknowledge a) c = passed 10 (wellFormed (a .entry)) (refusalsOf s (Acknowledge a) rows) refl c
+  named-formed (Cast r) c =
+      vote-formed (s .n) (s .f) (r .view) (r .vote) (passed 14 (valid (s .n) (s .f) (r .view) (r .vote)) (refusalsOf s (Cast r) rows) refl c)
+  named-formed (Ask q) c =
+      let list = refusalsOf s (Ask q) rows in
+      and-i (wellFormed (q .entry)) (formedRows rows) (passed 10 (wellFormed (q .entry)) list refl c)
+      (fit-formed (s .n) (s .f) (q .head .view) rows (false-is (unfit (s .n) (s .f) (q .head .view) rows) (unless 15 list c)))
+  named-formed (Confirm a) c = passed 10 (wellFormed (a .entry)) (refusalsOf s (Confirm a) rows) refl c
+
+-- "0 means taken": nothing applies, neither of setup's list nor of the event's.
+taken-clear : (s : Replica) (rs : Refusals) (t : Step) → Rises s rs → answered s rs t .number ≡ 0 → Clear (ownRefusals s ++ rs)
+unfolding answered numberFor
+taken-clear s rs t up e = go (eqb (numberFor s rs) 0) refl e
+  where
+    go : (b : Bool) → eqb (numberFor s rs) 0 ≡ b → cond b t (refused (numberFor s rs) s) .number ≡ 0 → Clear (ownRefusals s ++ rs)
+    go true q z = clear 0 (ownRefusals s ++ rs) up (eqb-true (numberFor s rs) 0 q)
+    go false q z = absurd (eqb-false (numberFor s rs) 0 q z)
+
+step-clear : (s : Replica) (m : Message) (rows : List Row) → step s m rows .number ≡ 0 → Clear (ownRefusals s ++ refusalsOf s m rows)
+unfolding startStep enterStep proposeStep acknowledgeStep castStep askStep confirmStep
+step-clear s Start rows = taken-clear s _ _ tt
+step-clear s (Enter v) rows = taken-clear s _ _ tt
+step-clear s (Propose p) rows = taken-clear s _ _ tt
+step-clear s (Acknowledge a) rows = taken-clear s _ _ tt
+step-clear s (Cast r) rows = taken-clear s _ _ tt
+step-clear s (Ask q) rows = taken-clear s _ _ tt
+step-clear s (Confirm c) rows = taken-clear s _ _ tt
+
+-- Any replica, also one built by hand, whose own entry is not well formed takes nothing, and no replica takes an event that names such an entry.
+pub taken-formed : (s : Replica) (m : Message) (rows : List Row) → step s m rows .number ≡ 0 → T (wellFormed (s .own)) × T (formed m rows)
+taken-formed s m rows e =
+    let c = step-clear s m rows e in
+    (passed 4 (wellFormed (s .own)) (ownRefusals s ++ refusalsOf s m rows) refl c, named-formed s rows m (clear-behind (ownRefusals s) (refusalsOf s m rows) c))
+
+-- ---- a decision
+
+abbrev Formed : Entry → Type 0
+Formed e = T (wellFormed e)
+
+-- Only an A that is taken decides, and what it decides is its entry.
+outcome-formed : {s : Replica} {rows : List Row} {m : Message} {t : Step} → Outcome s rows m t → Each Formed (reporting (t .decided))
+outcome-formed (refuse number) = tt
+outcome-formed (start c) = tt
+outcome-formed (enter v c) = tt
+outcome-formed (accept p c) = tt
+outcome-formed (note a c) = tt
+outcome-formed {s} {rows} (decide a c d) = (named-formed s rows (Acknowledge a) c, tt)
+outcome-formed (fill r c) = tt
+outcome-formed (ask r e c d) = tt
+outcome-formed (confirm q c) = tt
+outcome-formed (add a c) = tt
+outcome-formed (propose a c d) = tt
+
+-- No event of any replica decides an entry that is not well formed.
+pub decided-formed : (s : Replica) (m : Message) (rows : List Row) (e : Entry) → step s m rows .decided ≡ Decided.Now e → T (wellFormed e)
+decided-formed s m rows e d = subst (λ x. Each Formed (reporting x)) d (outcome-formed (outcome s rows m)) .0
+
+-- ---- what seats report
+
+-- Setup decides nothing, taken or refused.
+setup-formed : (n f : ℕ) (s : Seat) (own : Entry) → Each Formed (begun (setupStep n f s own) .reports)
+unfolding setupStep
+setup-formed n f s own = go (eqb (first (setupRefusals n f s own)) 0)
+  where
+    go : (b : Bool) → Each Formed (begun (cond b (quiet (fresh n f s own)) (refused (first (setupRefusals n f s own)) blankReplica)) .reports)
+    go true = tt
+    go false = tt
+
+run-formed : (n f : ℕ) (faulty : ℕ → Bool) {h : Members} → Run n f faulty h → (k : ℕ) → Each Formed (reportsOf (h k))
+run-formed n f faulty nobody = λ k. tt
+run-formed n f faulty (begins {h = h} run k o e own w) =
+    placed-all h k _ (λ j x. Each Formed (reportsOf x)) (setup-formed n f (record { 0 = k }) own) (run-formed n f faulty run)
+run-formed n f faulty (takes {h = h} run k o m e message rows told) =
+    let before = run-formed n f faulty run in
+    let now = outcome-formed (outcome (m .replica) rows message) in
+    placed-all h k _ (λ j x. Each Formed (reportsOf x))
+    (each-both Formed (reporting (step (m .replica) message rows .decided)) (m .reports) now (subst (λ x. Each Formed (reportsOf x)) e (before k))) before
+
+-- No correct seat ever reports an entry that is not well formed, whatever n and f are and however many seats are faulty.
+pub reported-formed : (n f : ℕ) (faulty : ℕ → Bool) (h : Members) → Run n f faulty h → (k : ℕ) (e : Entry) → Reported h k e → T (wellFormed e)
+reported-formed n f faulty h run k e = each-in Formed e (reportsOf (h k)) (run-formed n f faulty run k)
+
+-- Blanks alone are never booked as a device.
+pub blanks-never-booked : (n f : ℕ) (faulty : ℕ → Bool) (h : Members) → Run n f faulty h → (k : ℕ) (e : Entry) → Reported h k e
+    → all blank (serialOf e) ≡ true → ⊥
+blanks-never-booked n f faulty h run k e r b =
+    true≢false (sym (true-is (wellFormed e) (reported-formed n f faulty h run k e r)) ∙ blank-not-formed e b)
