@@ -4,6 +4,7 @@ pub mod Examples
 pub mod MarginLaws
 pub mod Numbers
 pub mod Ordered
+pub mod OwnLaws
 pub mod Refusals
 pub mod Replica
 pub mod Steps

@@ -10,13 +10,15 @@ use Rattle.base.specs.Tests.{and-l, and-r, and-i, or-false}
 use Rattle.entry.specs.Entry.{wellFormed}
 use Rattle.seats.specs.declared.View.{View}
 use Rattle.seats.specs.Sizes.{quorum}
+use Rattle.seats.specs.Mask.{bit}
 use Rattle.votes.specs.declared.Vote.{Vote}
 use Rattle.votes.specs.declared.Row.{Row}
+use Rattle.votes.specs.declared.VoteRows.{VoteRows}
 use Rattle.votes.specs.declared.Choice.{Choice}
 use Rattle.votes.specs.declared.Selected.{Selected}
 use Rattle.votes.specs.Vote.{valid}
 use Rattle.votes.specs.VoteLaws.{valid-formed}
-use Rattle.votes.specs.Rows.{sound, allSound, broken, rowsNumber, selected}
+use Rattle.votes.specs.Rows.{voteAt, hasRow, sound, allSound, broken, rowsNumber, selected}
 use Rattle.votes.specs.Request.{unfit}
 use Rattle.votes.specs.Answers.{choice-taken, call-first, unbroken-sound}
 
@@ -35,6 +37,13 @@ vote-formed n f v x t = go (x .cast) (valid-formed n f v x t)
     go : (b : Bool) → (T b → T (wellFormed (x .entry))) → T (not b || wellFormed (x .entry))
     go true h = h tt
     go false h = tt
+
+-- In a leader's table a row for another entry counts as empty.
+pub row-formed : (n f : ℕ) (v : View) (t : VoteRows) (k : ℕ) → T (hasRow n f v t k) → T (formedVote (voteAt (t .votes) k))
+unfolding hasRow
+row-formed n f v t k h =
+    let x = voteAt (t .votes) k in
+    vote-formed n f v x (and-r (bit (t .filled) k) (valid n f v x) h)
 
 sound-formed : (n f : ℕ) (v : View) (rows : List Row) → T (allSound n f v rows) → T (formedRows rows)
 unfolding sound

@@ -31,8 +31,10 @@ const USAGE: &str = "usage: library [--seed N] [--count N]";
 /// Rounds of questions where no number is given.
 const COUNT: u64 = 150_000;
 
+type Fixed = fn(&mut Asked) -> Result<(), String>;
+
 /// The questions that are written down.
-const FIXED: [fn(&mut Asked) -> Result<(), String>; 2] = [setup::check, serials::check];
+const FIXED: [Fixed; 2] = [setup::check, serials::check];
 
 type Check = fn(&mut Random, &mut Asked) -> Result<(), String>;
 

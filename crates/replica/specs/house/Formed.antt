@@ -4,7 +4,6 @@ use Prim.Native.Nat.{ℕ}
 use mathlib.Core.Path.{_≡_, refl, sym, _∙_, subst}
 use mathlib.Core.Bool.{Bool, true, false, not, _&&_, cond}
 use mathlib.Core.List.{List, _++_}
-use mathlib.Core.Option.{Option}
 use lib.Dec.{T, eqb}
 use mir.Facts.{T-not-not}
 use borrow.Author.Tests.{eqb-true, eqb-false}

@@ -1,0 +1,76 @@
+-- What a replica answers that setup would refuse: one built by hand, the blank one, one with an own entry of twelve blanks.
+use Prim.Native.Nat.{ℕ, _<_}
+use mathlib.Core.Path.{_≡_, refl, ap, ap₂, _∙_}
+use mathlib.Core.Bool.{false, not, cond}
+use mathlib.Core.List.{List, [], _∷_}
+use native.Mathlib.Omega.{arith}
+use lib.Dec.{eqb, leb, lit<}
+use lib.IntN.{pos}
+use borrow.Author.Tests.{ne-eqb, eq-eqb, lt-leb}
+use Rattle.base.specs.Refusal.{Refusals, first}
+use Rattle.base.specs.RefusalLaws.{first-behind}
+use Rattle.entry.specs.Entry.{wellFormed}
+use Rattle.entry.specs.Laws.{unnamed, one-byte-needed}
+use Rattle.seats.specs.Sizes.{sizeRefusals, mostFaulty}
+use Rattle.acks.specs.Acks.{rowOf, margin}
+use Rattle.votes.specs.declared.Row.{Row}
+use Rattle.messages.specs.declared.Message.{Message}
+use Rattle.messages.specs.declared.Message.the-variants.{Start, Enter, Propose, Acknowledge, Cast, Ask, Confirm}
+use Rattle.replica.specs.declared.Replica.{Replica}
+use Rattle.replica.specs.declared.Step.{Step}
+use Rattle.replica.specs.Replica.{fresh, ownRefusals, numberFor, marginOf}
+use Rattle.replica.specs.Steps.{refused, answered, startStep, enterStep, proposeStep, acknowledgeStep, castStep, askStep, confirmStep, step}
+
+module _ (s : Replica) where
+  -- Setup's number for it.
+  abbrev own : ℕ
+  own = first (ownRefusals s)
+
+  -- Where setup has a number, the event's list is not looked at.
+  own-first : (rs : Refusals) (t : Step) → (own ≡ 0 → ⊥) → answered s rs t ≡ refused own s
+  unfolding answered numberFor
+  own-first rs t h =
+      let some = ne-eqb own 0 h in
+      ap (λ k. cond (eqb k 0) t (refused k s)) (first-behind 0 (ownRefusals s) rs tt ∙ ap (λ b. cond b (first rs) own) some)
+      ∙ ap (λ b. cond b t (refused own s)) some
+
+  own-step : (m : Message) (rows : List Row) → (own ≡ 0 → ⊥) → step s m rows ≡ refused own s
+  unfolding startStep enterStep proposeStep acknowledgeStep castStep askStep confirmStep
+  own-step Start rows = own-first _ _
+  own-step (Enter v) rows = own-first _ _
+  own-step (Propose p) rows = own-first _ _
+  own-step (Acknowledge a) rows = own-first _ _
+  own-step (Cast r) rows = own-first _ _
+  own-step (Ask q) rows = own-first _ _
+  own-step (Confirm c) rows = own-first _ _
+
+  -- "A replica whose n, f, seat or own entry setup would refuse .. answers every event with setup's number and margin 0."
+  pub own-refused : (m : Message) (rows : List Row) → (own ≡ 0 → ⊥) → (step s m rows ≡ refused own s) × (marginOf s ≡ pos 0)
+  unfolding marginOf
+  own-refused m rows h = (own-step m rows h, ap (λ b. cond b (margin (s .n) (s .f) (rowOf (s .acks))) (pos 0)) (ne-eqb own 0 h))
+
+  -- 4 is setup's number where n, f and seat are as it takes them and the own entry is not well formed.
+  own-4 : first (sizeRefusals (s .n) (s .f)) ≡ 0 → s .seat .0 < s .n → wellFormed (s .own) ≡ false → own ≡ 4
+  own-4 sizes below bad =
+      let outside = leb (s .n) (s .seat .0) in
+      let unformed = not (wellFormed (s .own)) in
+      let number = first (sizeRefusals (s .n) (s .f)) in
+      first-behind 0 (sizeRefusals (s .n) (s .f)) ((3, outside) ∷ (4, unformed) ∷ []) tt
+      ∙ ap (λ b. cond b (cond outside 3 (cond unformed 4 0)) number) (eq-eqb number 0 sizes)
+      ∙ ap₂ (λ a b. cond a 3 (cond (not b) 4 0)) (lt-leb (s .n) (s .seat .0) below) bad
+
+  -- So a replica with an own entry of twelve blanks, which only a hand can build, takes nothing.
+  pub own-gets-4 : (m : Message) (rows : List Row) → first (sizeRefusals (s .n) (s .f)) ≡ 0 → s .seat .0 < s .n → wellFormed (s .own) ≡ false
+      → (step s m rows ≡ refused 4 s) × (marginOf s ≡ pos 0)
+  own-gets-4 m rows sizes below bad =
+      let four = own-4 sizes below bad in
+      let both = own-refused m rows (λ z. omega (arith, z, four)) in
+      (both .0 ∙ ap (λ k. refused k s) four, both .1)
+
+-- Such a replica: a fresh one but for its own entry.
+abbrev pub byHand : Replica
+byHand = fresh 4 1 (record { 0 = 0 }) unnamed
+
+pub by-hand-gets-4 : (step byHand Start [] ≡ refused 4 byHand) × (marginOf byHand ≡ pos 0)
+unfolding mostFaulty
+by-hand-gets-4 = own-gets-4 byHand Start [] refl (lit< tt) (one-byte-needed .1)
