@@ -14,7 +14,8 @@
 #include <stddef.h>
 #include <stdint.h>
 
-/* Setup. The answer is its number: 0, and the arrays are a fresh replica; or 1 to 4, and they are the blank one. */
+/* Setup. The answer is its number: 0, and the arrays are a fresh replica; or 1 to 4, and they are the blank one. 4: the entry's
+   bytes 0 to 11 are not one or more of 0x21 to 0x7E and then only 0x20. */
 uint8_t luscarembo_setup(uint8_t n, uint8_t f, uint8_t seat, uint64_t entry_hi, uint64_t entry_lo,
                          uint64_t scalars[22], uint64_t ack_entries[128], uint32_t ack_views[64],
                          uint64_t vote_entries[128], uint64_t vote_masks[64], uint32_t vote_views[64]);
