@@ -15,42 +15,35 @@ use Rattle.seats.specs.Sizes.{sizeRefusals, mostFaulty}
 use Rattle.acks.specs.Acks.{rowOf, margin}
 use Rattle.votes.specs.declared.Row.{Row}
 use Rattle.messages.specs.declared.Message.{Message}
-use Rattle.messages.specs.declared.Message.the-variants.{Start, Enter, Propose, Acknowledge, Cast, Ask, Confirm}
+use Rattle.messages.specs.declared.Message.the-variants.{Start}
 use Rattle.replica.specs.declared.Replica.{Replica}
 use Rattle.replica.specs.declared.Step.{Step}
 use Rattle.replica.specs.Replica.{fresh, ownRefusals, numberFor, marginOf}
-use Rattle.replica.specs.Steps.{refused, answered, startStep, enterStep, proposeStep, acknowledgeStep, castStep, askStep, confirmStep, step}
+use Rattle.replica.specs.Steps.{refused, answered, step}
+use Rattle.replica.specs.house.Outcomes.{refusalsOf, listed}
+
+-- Setup's number for it.
+abbrev pub ownNumber : Replica → ℕ
+ownNumber s = first (ownRefusals s)
 
 module _ (s : Replica) where
-  -- Setup's number for it.
-  abbrev own : ℕ
-  own = first (ownRefusals s)
-
   -- Where setup has a number, the event's list is not looked at.
-  own-first : (rs : Refusals) (t : Step) → (own ≡ 0 → ⊥) → answered s rs t ≡ refused own s
+  own-first : (rs : Refusals) (t : Step) → (ownNumber s ≡ 0 → ⊥) → answered s rs t ≡ refused (ownNumber s) s
   unfolding answered numberFor
   own-first rs t h =
-      let some = ne-eqb own 0 h in
-      ap (λ k. cond (eqb k 0) t (refused k s)) (first-behind 0 (ownRefusals s) rs tt ∙ ap (λ b. cond b (first rs) own) some)
-      ∙ ap (λ b. cond b t (refused own s)) some
-
-  own-step : (m : Message) (rows : List Row) → (own ≡ 0 → ⊥) → step s m rows ≡ refused own s
-  unfolding startStep enterStep proposeStep acknowledgeStep castStep askStep confirmStep
-  own-step Start rows = own-first _ _
-  own-step (Enter v) rows = own-first _ _
-  own-step (Propose p) rows = own-first _ _
-  own-step (Acknowledge a) rows = own-first _ _
-  own-step (Cast r) rows = own-first _ _
-  own-step (Ask q) rows = own-first _ _
-  own-step (Confirm c) rows = own-first _ _
+      let some = ne-eqb (ownNumber s) 0 h in
+      ap (λ k. cond (eqb k 0) t (refused k s)) (first-behind 0 (ownRefusals s) rs tt ∙ ap (λ b. cond b (first rs) (ownNumber s)) some)
+      ∙ ap (λ b. cond b t (refused (ownNumber s) s)) some
 
   -- "A replica whose n, f, seat or own entry setup would refuse .. answers every event with setup's number and margin 0."
-  pub own-refused : (m : Message) (rows : List Row) → (own ≡ 0 → ⊥) → (step s m rows ≡ refused own s) × (marginOf s ≡ pos 0)
+  pub own-refused : (m : Message) (rows : List Row) → (ownNumber s ≡ 0 → ⊥) → (step s m rows ≡ refused (ownNumber s) s) × (marginOf s ≡ pos 0)
   unfolding marginOf
-  own-refused m rows h = (own-step m rows h, ap (λ b. cond b (margin (s .n) (s .f) (rowOf (s .acks))) (pos 0)) (ne-eqb own 0 h))
+  own-refused m rows h =
+      let l = listed s m rows in
+      (l .is ∙ own-first (refusalsOf s m rows) (l .taken) h, ap (λ b. cond b (margin (s .n) (s .f) (rowOf (s .acks))) (pos 0)) (ne-eqb (ownNumber s) 0 h))
 
   -- 4 is setup's number where n, f and seat are as it takes them and the own entry is not well formed.
-  own-4 : first (sizeRefusals (s .n) (s .f)) ≡ 0 → s .seat .0 < s .n → wellFormed (s .own) ≡ false → own ≡ 4
+  own-4 : first (sizeRefusals (s .n) (s .f)) ≡ 0 → s .seat .0 < s .n → wellFormed (s .own) ≡ false → ownNumber s ≡ 4
   own-4 sizes below bad =
       let outside = leb (s .n) (s .seat .0) in
       let unformed = not (wellFormed (s .own)) in

@@ -27,10 +27,9 @@ use Rattle.replica.specs.Ordered.{Rises}
 use Rattle.replica.specs.Refusals.{setupRefusals}
 use Rattle.replica.specs.Replica.{ownRefusals, numberFor, fresh, blank as blankReplica}
 use Rattle.replica.specs.Steps.{answered, quiet, refused, setupStep, step}
-use Rattle.replica.specs.Steps.{startStep, enterStep, proposeStep, acknowledgeStep, castStep, askStep, confirmStep}
 use Rattle.replica.specs.house.ClaimLaws.{Each, each-in, each-both}
 use Rattle.replica.specs.house.Invariant.{placed-all}
-use Rattle.replica.specs.house.Outcomes.{refusalsOf, Taken}
+use Rattle.replica.specs.house.Outcomes.{refusalsOf, Taken, listed}
 use Rattle.replica.specs.house.Outcomes.{Outcome, refuse, start, enter, accept, note, decide, fill, ask, confirm, add, propose, outcome}
 use Rattle.replica.specs.house.Runs.{Members, begun, reporting, reportsOf, Reported, Run, nobody, begins, takes}
 
@@ -74,14 +73,9 @@ taken-clear s rs t up e = go (eqb (numberFor s rs) 0) refl e
     go false q z = absurd (eqb-false (numberFor s rs) 0 q z)
 
 step-clear : (s : Replica) (m : Message) (rows : List Row) → step s m rows .number ≡ 0 → Clear (ownRefusals s ++ refusalsOf s m rows)
-unfolding startStep enterStep proposeStep acknowledgeStep castStep askStep confirmStep
-step-clear s Start rows = taken-clear s _ _ tt
-step-clear s (Enter v) rows = taken-clear s _ _ tt
-step-clear s (Propose p) rows = taken-clear s _ _ tt
-step-clear s (Acknowledge a) rows = taken-clear s _ _ tt
-step-clear s (Cast r) rows = taken-clear s _ _ tt
-step-clear s (Ask q) rows = taken-clear s _ _ tt
-step-clear s (Confirm c) rows = taken-clear s _ _ tt
+step-clear s m rows e =
+    let l = listed s m rows in
+    taken-clear s (refusalsOf s m rows) (l .taken) (l .rises) (subst (λ t. t .number ≡ 0) (l .is) e)
 
 -- Any replica, also one built by hand, whose own entry is not well formed takes nothing, and no replica takes an event that names such an entry.
 pub taken-formed : (s : Replica) (m : Message) (rows : List Row) → step s m rows .number ≡ 0 → T (wellFormed (s .own)) × T (formed m rows)

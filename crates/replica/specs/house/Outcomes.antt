@@ -70,6 +70,22 @@ refusalsOf s (Confirm c) rows = confirmRefusals (standing s) (s .confirmed) (s .
 abbrev pub Taken : Replica → Message → List Row → Type 0
 Taken s m rows = Clear (refusalsOf s m rows)
 
+-- Every step answers for that list, whose numbers rise behind setup's.
+pub record Listed (s : Replica) (m : Message) (rows : List Row) : Type 0 where
+  pub taken : Step
+  pub is : step s m rows ≡ answered s (refusalsOf s m rows) taken
+  pub rises : Rises s (refusalsOf s m rows)
+
+pub listed : (s : Replica) (m : Message) (rows : List Row) → Listed s m rows
+unfolding startStep enterStep proposeStep acknowledgeStep castStep askStep confirmStep
+listed s Start rows = record { taken = _; is = refl; rises = tt }
+listed s (Enter v) rows = record { taken = _; is = refl; rises = tt }
+listed s (Propose p) rows = record { taken = _; is = refl; rises = tt }
+listed s (Acknowledge a) rows = record { taken = _; is = refl; rises = tt }
+listed s (Cast r) rows = record { taken = _; is = refl; rises = tt }
+listed s (Ask q) rows = record { taken = _; is = refl; rises = tt }
+listed s (Confirm c) rows = record { taken = _; is = refl; rises = tt }
+
 -- "the leader chooses the forced entry, or its own where the choice is free"
 abbrev pub Chosen : Replica → Entry → Type 0
 Chosen s e = ((selectionOf s ≡ Choice.Free) × (s .own ≡ e)) ⊎ (selectionOf s ≡ Choice.Forced e)
