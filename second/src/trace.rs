@@ -34,7 +34,7 @@ pub fn trace<R: Read, W: Write, T: Watch>(input: R, output: W, watch: &mut T) ->
     let mut source = Source::new(input);
     let mut printer = Printer::new(output);
     let opening = source.next_line()?.and_then(read_opening);
-    let begun = opening.as_ref().map_or(Err(19), Opening::setup);
+    let begun = open(opening.as_ref());
     watch.opened(opening.as_ref(), begun.as_ref().err().copied().unwrap_or(0));
     let mut replica = match begun {
         Ok(replica) => replica,
@@ -62,11 +62,9 @@ pub fn trace<R: Read, W: Write, T: Watch>(input: R, output: W, watch: &mut T) ->
     Ok(printer.events)
 }
 
-impl Opening {
-    /// The replica of an H line, or setup's number.
-    fn setup(&self) -> Result<Replica, u8> {
-        Replica::setup(self.n, self.f, self.seat, self.own)
-    }
+/// The replica of the H line, or the number of a bad one.
+fn open(opening: Option<&Opening>) -> Result<Replica, u8> {
+    opening.map_or(Err(19), |line| Replica::setup(line.n, line.f, line.seat, line.own))
 }
 
 /// An event, `None` for one with 19, and its rows.

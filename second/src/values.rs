@@ -35,7 +35,7 @@ pub fn few_entries(random: &mut Random) -> Vec<Entry> {
 }
 
 /// Twelve blanks, booked as a device.
-pub const NO_SERIAL: Entry = *b"            \0\0\0\x01";
+const NO_SERIAL: Entry = *b"            \0\0\0\x01";
 
 /// An entry whose serial is not well formed, often twelve blanks.
 pub fn bad_entry(random: &mut Random) -> Entry {

@@ -14,33 +14,33 @@ use Rattle.entry.specs.Entry.{all, visible, blank, stretched, serial, se
 pub unseen : (x : ℕ) → blank x ≡ true → visible x ≡ false
 unseen x h = rw (eqb-true x 0x20 h)
 
--- ---- where the visible stretch ends: behind so many bytes or more
+-- ---- where the visible stretch ends: behind at least so many bytes
 pub record Stretches (least : ℕ) (s : List ℕ) : Type 0 where
   pub cut : ℕ
-  pub behind : least ≤ cut
+  pub enough : least ≤ cut
   pub inside : cut ≤ length s
   pub seen : all visible (take cut s) ≡ true
   pub empty : all blank (drop cut s) ≡ true
 
 -- With one visible byte more before it.
-longer : (least x : ℕ) (xs : List ℕ) → least ≤ 1 → visible x ≡ true → Stretches 0 xs → Stretches least (x ∷ xs)
-longer least x xs l h r = record {
+one-before : (least x : ℕ) (xs : List ℕ) → least ≤ 1 → visible x ≡ true → Stretches 0 xs → Stretches least (x ∷ xs)
+one-before least x xs l h r = record {
   cut = suc (r .cut);
-  behind = omega (arith, l);
+  enough = omega (arith, l);
   inside = omega (arith, r .inside);
   seen = ap₂ (λ (a b : Bool). a && b) h (r .seen);
   empty = r .empty;
 }
 
 stretched-cut : (s : List ℕ) → stretched s ≡ true → Stretches 0 s
-stretched-cut [] h = record { cut = 0; behind = omega arith; inside = omega arith; seen = refl; empty = refl }
+stretched-cut [] h = record { cut = 0; enough = omega arith; inside = omega arith; seen = refl; empty = refl }
 stretched-cut (x ∷ xs) h = go (visible x && stretched xs) refl (stretched-cut xs)
   where
     go : (t : Bool) → (visible x && stretched xs) ≡ t → (stretched xs ≡ true → Stretches 0 xs) → Stretches 0 (x ∷ xs)
-    go true e rest = let both = and-true (visible x) (stretched xs) e in longer 0 x xs (omega arith) (both .0) (rest (both .1))
+    go true e rest = let both = and-true (visible x) (stretched xs) e in one-before 0 x xs (omega arith) (both .0) (rest (both .1))
     go false e rest = record {
       cut = 0;
-      behind = omega arith;
+      enough = omega arith;
       inside = omega arith;
       seen = refl;
       empty = sym (ap (λ (t : Bool). t || all blank (x ∷ xs)) e) ∙ h;
@@ -62,10 +62,10 @@ pub serial-cut : (s : List ℕ) → serial s ≡ true → Stretches 1 s
 serial-cut [] h = true≢false (sym h)
 serial-cut (x ∷ xs) h =
     let both = and-true (visible x) (stretched xs) h in
-    longer 1 x xs (omega arith) (both .0) (stretched-cut xs (both .1))
+    one-before 1 x xs (omega arith) (both .0) (stretched-cut xs (both .1))
 
 pub cut-serial : (s : List ℕ) → Stretches 1 s → serial s ≡ true
-cut-serial s r = go (r .cut) s (r .behind) (r .inside) (r .seen) (r .empty)
+cut-serial s r = go (r .cut) s (r .enough) (r .inside) (r .seen) (r .empty)
   where
     go : (i : ℕ) (s : List ℕ) → 1 ≤ i → i ≤ length s → all visible (take i s) ≡ true → all blank (drop i s) ≡ true → serial s ≡ true
     go zero s l m h k = absurd (omega (arith, l))
@@ -85,9 +85,9 @@ shown-first x xs = go (blank x) refl
     go false e = or-alone (visible x && stretched xs)
 
 -- Blanks alone are no serial, however many they are.
-pub no-blanks : (s : List ℕ) → all blank s ≡ true → serial s ≡ false
-no-blanks [] h = refl
-no-blanks (x ∷ xs) h = ap (λ (t : Bool). t && stretched xs) (unseen x (and-true (blank x) (all blank xs) h .0))
+pub blanks-no-serial : (s : List ℕ) → all blank s ≡ true → serial s ≡ false
+blanks-no-serial [] h = refl
+blanks-no-serial (x ∷ xs) h = ap (λ (t : Bool). t && stretched xs) (unseen x (and-true (blank x) (all blank xs) h .0))
 
 -- One visible byte before them is enough.
 pub one-visible : (x : ℕ) (s : List ℕ) → visible x ≡ true → all blank s ≡ true → serial (x ∷ s) ≡ true
@@ -96,4 +96,4 @@ one-visible x s h k = simp (h, blank-stretched s k)
 -- "twelve blanks booked as a device": such an entry is not well formed, whatever its code.
 pub blank-not-formed : (e : Entry) → all blank (serialOf e) ≡ true → wellFormed e ≡ false
 unfolding wellFormed
-blank-not-formed e h = no-blanks (serialOf e) h
+blank-not-formed e h = blanks-no-serial (serialOf e) h

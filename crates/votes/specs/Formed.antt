@@ -38,7 +38,7 @@ vote-formed n f v x t = go (x .cast) (valid-formed n f v x t)
     go true h = h tt
     go false h = tt
 
--- In a leader's table a row for another entry counts as empty.
+-- In a leader's table a row for an entry that is not well formed counts as empty.
 pub row-formed : (n f : ℕ) (v : View) (t : VoteRows) (k : ℕ) → T (hasRow n f v t k) → T (formedVote (voteAt (t .votes) k))
 unfolding hasRow
 row-formed n f v t k h =

@@ -2,7 +2,7 @@
 
 use std::collections::BTreeMap;
 
-use crate::entry::{no_serial, shortest_serial, well_formed, Entry};
+use crate::entry::{well_formed, Entry, SERIAL};
 use crate::lines::Opening;
 use crate::message::{Head, Message, Row};
 use crate::replica::{Acknowledged, Answer, Replica};
@@ -157,7 +157,8 @@ impl<'a> Coverage<'a> {
             }
             // Its 14 is counted among the reasons for one.
             Message::Vote(row) => {
-                return self.cells.add_if(number == 0 && shortest_serial(&row.vote.entry), Cell::ShortestVote);
+                let shortest = row.vote.cast && shortest_serial(&row.vote.entry);
+                return self.cells.add_if(number == 0 && shortest, Cell::ShortestVote);
             }
             Message::Request { entry, .. } => (entry, Cell::NoSerialRequest, Cell::ShortestRequest),
             Message::Confirmation { entry, .. } => (entry, Cell::NoSerialConfirmation, Cell::ShortestConfirmation),
@@ -238,6 +239,16 @@ impl Watch for Coverage<'_> {
         self.cells.add_if(own && number == 0, Cell::OwnMessage);
         self.margin(margin);
     }
+}
+
+/// Whether the serial is blanks alone.
+fn no_serial(entry: &Entry) -> bool {
+    entry[..SERIAL] == [b' '; SERIAL]
+}
+
+/// Whether the serial is one visible byte, then blanks.
+fn shortest_serial(entry: &Entry) -> bool {
+    well_formed(entry) && entry[1] == b' '
 }
 
 /// The vote as it would be for a device, where it is for twelve blanks.

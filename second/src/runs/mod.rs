@@ -26,7 +26,7 @@ use crate::trace::trace;
 use crate::values;
 
 /// Short runs about H lines, made before the long ones.
-const OPENINGS: usize = 160;
+const OPENINGS: usize = 400;
 
 /// About how many events a long run has.
 const LONG: u64 = 2_600;

@@ -27,13 +27,14 @@ use Rattle.messages.specs.declared.Message.{Message}
 use Rattle.messages.specs.declared.Message.the-variants.{Propose, Acknowledge, Ask}
 use Rattle.replica.specs.declared.Replica.{Replica}
 use Rattle.replica.specs.declared.Step.{Step}
+use Rattle.replica.specs.Ordered.{refusalsOf}
 use Rattle.replica.specs.Refusals.{askRefusals}
 use Rattle.replica.specs.Replica.{standing}
 use Rattle.replica.specs.Steps.{ackRow, rowed, decides, step}
 use Rattle.replica.specs.house.Claims.{proposes, acknowledges, votes, confirms, whole, said, signed, inRows, claims}
 use Rattle.replica.specs.house.Runs.{Member, Members, Among, allSaid, sentBy, Setting, Covered}
 use Rattle.replica.specs.house.Kept.{Seated}
-use Rattle.replica.specs.house.Outcomes.{refusalsOf, Taken, enter-later, head-within, head-marked, head-here, proposal-good}
+use Rattle.replica.specs.house.Outcomes.{Taken, enter-later, head-within, head-marked, head-here, proposal-good}
 use Rattle.replica.specs.house.Outcomes.{Outcome, refuse, start, enter, accept, note, decide, fill, ask, confirm, add, propose, outcome}
 use Rattle.replica.specs.house.ClaimLaws.{Each, each-all, each-behind, mark-passes, bit-passes}
 use Rattle.replica.specs.house.Histories.{viewOf, historyOf, Told, rows-told}

@@ -30,7 +30,7 @@ use Rattle.messages.specs.declared.Request.{Request}
 use Rattle.messages.specs.Lines.{rowHead}
 use Rattle.replica.specs.declared.Replica.{Replica}
 use Rattle.replica.specs.declared.Step.{Step}
-use Rattle.replica.specs.Ordered.{Rises}
+use Rattle.replica.specs.Ordered.{Rises, refusalsOf}
 use Rattle.replica.specs.Refusals.{collecting, asking, proposed, isView, outside, elsewhere, startRefusals, enterRefusals, proposeRefusals}
 use Rattle.replica.specs.Refusals.{acknowledgeRefusals, castRefusals, askRefusals, confirmRefusals}
 use Rattle.replica.specs.Replica.{standing, ownRefusals, numberFor, withStage, withVote}
@@ -57,34 +57,8 @@ clear-taken s rs t own c = ap (λ k. cond (eqb k 0) t (refused k s)) (none-both 
 
 -- ---- the outcomes of a step
 
--- The list of an event. The rows are a Q's.
-abbrev pub refusalsOf : Replica → Message → List Row → Refusals
-refusalsOf s Start rows = startRefusals (standing s)
-refusalsOf s (Enter v) rows = enterRefusals (standing s) v
-refusalsOf s (Propose p) rows = proposeRefusals (standing s) (s .vote) p
-refusalsOf s (Acknowledge a) rows = acknowledgeRefusals (standing s) (rowOf (s .acks) (a .head .seat .0) .view) a
-refusalsOf s (Cast r) rows = castRefusals (standing s) (voted s (r .seat .0)) r
-refusalsOf s (Ask q) rows = askRefusals (standing s) q ++ rowRefusals (s .n) (s .f) (q .head .view) rows (q .entry)
-refusalsOf s (Confirm c) rows = confirmRefusals (standing s) (s .confirmed) (s .chosen) c
-
 abbrev pub Taken : Replica → Message → List Row → Type 0
 Taken s m rows = Clear (refusalsOf s m rows)
-
--- Every step answers for that list, whose numbers rise behind setup's.
-pub record Listed (s : Replica) (m : Message) (rows : List Row) : Type 0 where
-  pub taken : Step
-  pub is : step s m rows ≡ answered s (refusalsOf s m rows) taken
-  pub rises : Rises s (refusalsOf s m rows)
-
-pub listed : (s : Replica) (m : Message) (rows : List Row) → Listed s m rows
-unfolding startStep enterStep proposeStep acknowledgeStep castStep askStep confirmStep
-listed s Start rows = record { taken = _; is = refl; rises = tt }
-listed s (Enter v) rows = record { taken = _; is = refl; rises = tt }
-listed s (Propose p) rows = record { taken = _; is = refl; rises = tt }
-listed s (Acknowledge a) rows = record { taken = _; is = refl; rises = tt }
-listed s (Cast r) rows = record { taken = _; is = refl; rises = tt }
-listed s (Ask q) rows = record { taken = _; is = refl; rises = tt }
-listed s (Confirm c) rows = record { taken = _; is = refl; rises = tt }
 
 -- "the leader chooses the forced entry, or its own where the choice is free"
 abbrev pub Chosen : Replica → Entry → Type 0
@@ -139,7 +113,10 @@ module _ (s : Replica) (rows : List Row) where
 
 -- ---- what a taken event was not refused for
 
--- A test whose failure is refused passed.
+-- A test passed whose failure is refused under this number.
+pub passed : (k : ℕ) (b : Bool) (rs : Refusals) → under k rs ≡ not b → Clear rs → T b
+passed k b rs e c = T-not-not b (subst (λ x. T (not x)) e (unless k rs c))
+
 equal : {a b : ℕ} → T (not (not (eqb a b))) → a ≡ b
 equal {a} {b} t = eqb-yes (T-not-not (eqb a b) t)
 
@@ -154,7 +131,7 @@ module _ (s : Replica) where
     head-within e c = leb-no (subst (λ b. T (not b)) e (past 6 m c))
 
     pub head-marked : under 7 (refusalsOf s m []) ≡ not (h .verified) → Taken s m [] → T (h .verified)
-    head-marked e c = T-not-not (h .verified) (subst (λ b. T (not b)) e (past 7 m c))
+    head-marked e c = passed 7 (h .verified) (refusalsOf s m []) e c
 
     pub head-here : under 8 (refusalsOf s m []) ≡ elsewhere (standing s) (h .view) → Taken s m [] → h .view .0 ≡ s .view .0
     head-here e c = equal (subst (λ b. T (not b)) e (past 8 m c))
@@ -172,7 +149,7 @@ module _ (s : Replica) where
   proposal-led p c = equal (past 9 (Propose p) c)
 
   pub proposal-good : (p : Proposal) → Taken s (Propose p) [] → T (goodCertificate (s .n) (s .f) (p .head .view) (p .mask))
-  proposal-good p c = T-not-not (goodCertificate (s .n) (s .f) (p .head .view) (p .mask)) (past 11 (Propose p) c)
+  proposal-good p c = passed 11 (goodCertificate (s .n) (s .f) (p .head .view) (p .mask)) (refusalsOf s (Propose p) []) refl c
 
   pub proposal-new : (p : Proposal) → Taken s (Propose p) [] → T (s .vote .cast) → s .vote .view .0 ≡ p .head .view .0 → ⊥
   proposal-new p c t e =
@@ -191,4 +168,4 @@ module _ (s : Replica) where
   confirm-asking a c = equal (past 13 (Confirm a) c)
 
   pub confirm-chosen : (a : Assent) → Taken s (Confirm a) [] → a .entry ≡ s .chosen
-  confirm-chosen a c = same-eq (a .entry) (s .chosen) (T-not-not (same (a .entry) (s .chosen)) (past 18 (Confirm a) c))
+  confirm-chosen a c = same-eq (a .entry) (s .chosen) (passed 18 (same (a .entry) (s .chosen)) (refusalsOf s (Confirm a) []) refl c)

@@ -1,11 +1,11 @@
 -- Every Q that a seat sends is confirmed by everybody of the house who is in its view.
 use Prim.Native.Nat.{ℕ}
-use mathlib.Core.Path.{sym, _∙_, subst}
+use mathlib.Core.Path.{refl, sym, _∙_, subst}
 use mathlib.Core.List.{List, []}
 use mathlib.Core.Logic.{inl, inr}
 use native.Mathlib.Omega.{arith}
 use lib.Dec.{T, eqb, eqb-refl}
-use mir.Facts.{T-not-not, yes-eqb, no-eqb}
+use mir.Facts.{yes-eqb, no-eqb}
 use Rattle.base.specs.RefusalLaws.{clear, unless}
 use Rattle.base.specs.Tests.{unrefused}
 use Rattle.entry.specs.declared.Entry.{Entry}
@@ -21,7 +21,7 @@ use Rattle.replica.specs.declared.Replica.{Replica}
 use Rattle.replica.specs.declared.Step.{Step}
 use Rattle.replica.specs.Replica.{ownRefusals}
 use Rattle.replica.specs.Steps.{filledBy, requestFor, selectionOf, requestRows, askStep, step}
-use Rattle.replica.specs.house.Outcomes.{clear-taken, Taken, Chosen, cast-led, cast-collecting}
+use Rattle.replica.specs.house.Outcomes.{clear-taken, passed, Taken, Chosen, cast-led, cast-collecting}
 use Rattle.replica.specs.house.Outcomes.{Outcome, refuse, start, enter, accept, note, decide, fill, ask, confirm, add, propose, outcome}
 use Rattle.replica.specs.house.ClaimLaws.{Each, each-or}
 use Rattle.replica.specs.house.Kept.{Seated, Leading, Confirmed, Asked}
@@ -66,7 +66,7 @@ module _ (n f k : ℕ) (m : Member) (seated : Seated n f k (m .replica)) (leadin
       let not-0 = no-eqb {a = s .view .0} {b = 0} (omega arith) in
       let not-1 = no-eqb {a = s .view .0} {b = 1} (omega arith) in
       let own = clear 0 (ownRefusals s) tt (seated .taken) in
-      let own-formed = T-not-not (wellFormed (s .own)) (unless 4 (ownRefusals s) own) in
+      let own-formed = passed 4 (wellFormed (s .own)) (ownRefusals s) refl own in
       let formed = unrefused (wellFormed e) (chosen-formed (filledBy s r) e own-formed chosen) in
       let in-view = unrefused (eqb (s .view .0) (s .view .0)) (eqb-refl (s .view .0)) in
       let led = unrefused (eqb (leader (s .view .0) (s .n)) (s .seat .0)) (yes-eqb (cast-led s r c)) in
