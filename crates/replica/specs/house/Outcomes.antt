@@ -17,10 +17,8 @@ use Rattle.seats.specs.declared.View.{View}
 use Rattle.seats.specs.Seats.{leader, count}
 use Rattle.seats.specs.Mask.{bit}
 use Rattle.seats.specs.Certificate.{signers, goodCertificate}
-use Rattle.acks.specs.Acks.{rowOf}
 use Rattle.votes.specs.declared.Row.{Row}
 use Rattle.votes.specs.declared.Choice.{Choice}
-use Rattle.votes.specs.Request.{rowRefusals}
 use Rattle.messages.specs.declared.Head.{Head}
 use Rattle.messages.specs.declared.Message.{Message}
 use Rattle.messages.specs.declared.Message.the-variants.{Start, Enter, Propose, Acknowledge, Cast, Ask, Confirm}
@@ -31,12 +29,11 @@ use Rattle.messages.specs.Lines.{rowHead}
 use Rattle.replica.specs.declared.Replica.{Replica}
 use Rattle.replica.specs.declared.Step.{Step}
 use Rattle.replica.specs.Ordered.{Rises, refusalsOf}
-use Rattle.replica.specs.Refusals.{collecting, asking, proposed, isView, outside, elsewhere, startRefusals, enterRefusals, proposeRefusals}
-use Rattle.replica.specs.Refusals.{acknowledgeRefusals, castRefusals, askRefusals, confirmRefusals}
+use Rattle.replica.specs.Refusals.{collecting, asking, proposed, isView, outside, elsewhere}
 use Rattle.replica.specs.Replica.{standing, ownRefusals, numberFor, withStage, withVote}
 use Rattle.replica.specs.Steps.{refused, answered, quiet, saying, assentOf, proposalOf, entered, ballot, voteFor, rowed, decides, decidedBy}
 use Rattle.replica.specs.Steps.{filledBy, asks, chooses, selectionOf, confirming, confirmedBy, confirmers, acknowledged, collected, certified}
-use Rattle.replica.specs.Steps.{voted, startStep, enterStep, proposeStep, acknowledgeStep, castStep, askStep, confirmStep, step}
+use Rattle.replica.specs.Steps.{startStep, enterStep, proposeStep, acknowledgeStep, castStep, askStep, confirmStep, step}
 
 -- ---- refused or taken
 
