@@ -1,4 +1,4 @@
--- 02, Two: "Receiving found twelve blanks booked as a device." No event is taken that names an entry which is not well allFormed, none decides
+-- 02, Two: "Receiving found twelve blanks booked as a device." No event is taken that names an entry which is not well formed, none decides
 -- one, and no correct seat ever reports one.
 use Prim.Native.Nat.{ℕ}
 use mathlib.Core.Path.{_≡_, refl, sym, _∙_, subst}
@@ -72,7 +72,7 @@ step-clear s m rows e =
     let l = listed s m rows in
     taken-clear s (refusalsOf s m rows) (l .taken) (l .rises) (subst (λ t. t .number ≡ 0) (l .is) e)
 
--- Any replica, also one built by hand, whose own entry is not well allFormed takes nothing, and no replica takes an event that names such an entry.
+-- A replica whose own entry is not well formed takes nothing, and no replica, whoever built it, takes an event that names such an entry.
 pub taken-formed : (s : Replica) (m : Message) (rows : List Row) → step s m rows .number ≡ 0 → T (wellFormed (s .own)) × T (allFormed m rows)
 taken-formed s m rows e =
     let c = step-clear s m rows e in
@@ -107,7 +107,7 @@ outcome-formed (confirm q c) = tt
 outcome-formed (add a c) = tt
 outcome-formed (propose a c d) = tt
 
--- No event of any replica decides an entry that is not well allFormed.
+-- No event of any replica decides an entry that is not well formed.
 pub decided-formed : (s : Replica) (m : Message) (rows : List Row) (e : Entry) → step s m rows .decided ≡ Decided.Now e → T (wellFormed e)
 decided-formed s m rows e d = subst (λ x. Each Formed (reporting x)) d (outcome-formed (outcome s rows m)) .0
 
@@ -132,7 +132,7 @@ run-formed n f faulty (takes {h = h} run k o m e message rows told) =
     placed-all h k _ (λ j x. Each Formed (reportsOf x))
     (each-both Formed (reporting (step (m .replica) message rows .decided)) (m .reports) now (subst (λ x. Each Formed (reportsOf x)) e (before k))) before
 
--- No correct seat ever reports an entry that is not well allFormed, whatever n and f are and however many seats are faulty.
+-- No correct seat ever reports an entry that is not well formed, whatever n and f are and however many seats are faulty.
 pub reported-formed : (n f : ℕ) (faulty : ℕ → Bool) (h : Members) → Run n f faulty h → (k : ℕ) (e : Entry) → Reported h k e → T (wellFormed e)
 reported-formed n f faulty h run k e = each-in Formed e (reportsOf (h k)) (run-formed n f faulty run k)
 
