@@ -1,6 +1,6 @@
 #!/usr/bin/env bash
-# Every test: the layout of the sources, that each public function is held to one answer; the proofs from nothing, the edits that must be refused, the
-# programs; contracts, rules and functions broken on purpose; then `trace` and the library beside the second program.
+# Every test: the layout of the sources, that each public function is held to one answer; the proofs from nothing and the programs; contracts, rules
+# and functions broken on purpose, which must be refused; then `trace` and the library beside the second program.
 # Ends with 'N passed, 0 failed' where all is well, and with another line and a status that is not 0 where not.
 set -u
 cd "$(dirname "$0")" || exit 2
@@ -37,7 +37,7 @@ held=$passed
 echo '== seats: a view becomes one by the leader rule alone (tools/seats-made.txt)'
 grep -rE '\bSeat\(' crates/*/src --include='*.rt' | sed 's/:  */: /' | LC_ALL=C sort | diff tools/seats-made.txt - || fail 'a seat is made in a new place (>): if not from a view, add it to tools/seats-made.txt'
 
-echo '== proofs, edits that must be refused, programs (rt ci)'
+echo '== proofs, programs (rt ci)'
 rt ci 2>&1 | tee "$log"
 [ "${PIPESTATUS[0]}" -eq 0 ] || fail 'rt ci failed: what it printed above says where'
 passed=$(sed -n '$s/^\([0-9][0-9]*\) passed, 0 failed$/\1/p' "$log")

@@ -3,16 +3,21 @@
 /// The number of seats a table of rows has room for.
 pub const ROOM: usize = 64;
 
-/// The largest f with 5f − 1 ≤ n. The rules keep it as a table; here it is worked out, so that the two can differ.
+/// "5f − 1 ≤ n": n seats bear f faulty ones.
+fn bears(n: u8, f: u8) -> bool {
+    5 * u16::from(f) <= u16::from(n) + 1
+}
+
+/// The largest f that n seats bear. The rules divide; here f is looked for, so that the two can differ.
 pub fn largest_f(n: u8) -> u8 {
-    (n + 1) / 5
+    (1..=n).rev().find(|&f| bears(n, f)).unwrap_or(0)
 }
 
 /// Setup's 1 and 2, or 0.
 pub fn size_number(n: u8, f: u8) -> u8 {
     if !(4..=64).contains(&n) {
         1
-    } else if f == 0 || f > largest_f(n) {
+    } else if f == 0 || !bears(n, f) {
         2
     } else {
         0

@@ -43,12 +43,20 @@ most-largest n f l h t =
     let b = leb→le (fewest f) n t in
     subst (λ m. f ≤ m) (sym (most-is n l h)) (largest-most (bears n) n f (omega arith) t)
 
--- Worked out with no table: (n + 1) divided by 5, rounded down.
-pub most-quotient : (n : ℕ) → 4 ≤ n → n ≤ 64 → mostFaulty n ≡ (n + 1) / 5
-most-quotient n l h =
-    let a = leb→le (fewest (mostFaulty n)) n (most-bears n l h) in
-    let b = most-largest n ((n + 1) / 5) l h (le→leb (fewest ((n + 1) / 5)) n (omega arith)) in
+-- 02, Four: "(n + 1) divided by 5, rounded down"
+abbrev pub quotient : ℕ → ℕ
+quotient n = (n + 1) / 5
+
+largest-quotient : (n : ℕ) → largest (bears n) n ≡ quotient n
+largest-quotient n =
+    let a = leb→le (fewest (largest (bears n) n)) n (largest-passes (bears n) n (le→leb 0 n (omega arith))) in
+    let b = largest-most (bears n) n (quotient n) (omega arith) (le→leb (fewest (quotient n)) n (omega arith)) in
     omega arith
+
+-- Whatever n is, the largest f is that quotient, and 0 outside 4 to 64.
+pub most-quotient : (n : ℕ) → mostFaulty n ≡ cond (sizeAllowed n) (quotient n) 0
+unfolding mostFaulty
+most-quotient n = ap (λ f. cond (sizeAllowed n) f 0) (largest-quotient n)
 
 -- The leader is one of the seats.
 pub leader-lt : (w n : ℕ) → 0 < n → leader w n < n

@@ -26,7 +26,7 @@ largest p (suc b) = cond (p (suc b)) (suc b) (largest p b)
 unfoldable pub mostFaulty : ℕ → ℕ
 mostFaulty n = cond (sizeAllowed n) (largest (bears n) n) 0
 
--- 1: "n outside 4 to 64"; 2: "f is 0 or above the table"
+-- 1: "n outside 4 to 64"; 2: "f is 0 or above the table", that is, above the largest f
 abbrev pub sizeRefusals : ℕ → ℕ → Refusals
 sizeRefusals n f = (1, not (sizeAllowed n)) ∷ (2, eqb f 0 || ltb (mostFaulty n) f) ∷ []
 
