@@ -3,12 +3,12 @@
 /// The number of seats a table of rows has room for.
 pub const ROOM: usize = 64;
 
-/// "5f − 1 ≤ n": n seats bear f faulty ones.
+/// "5f − 1 ≤ n": n seats bear f faulty ones. The rules divide; here nothing is divided, so that the two can differ.
 fn bears(n: u8, f: u8) -> bool {
     5 * u16::from(f) <= u16::from(n) + 1
 }
 
-/// The largest f that n seats bear. The rules divide; here f is looked for, so that the two can differ.
+/// The largest f that n seats bear, for the houses that are made here.
 pub fn largest_f(n: u8) -> u8 {
     (1..=n).rev().find(|&f| bears(n, f)).unwrap_or(0)
 }

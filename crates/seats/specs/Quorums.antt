@@ -41,7 +41,7 @@ module _ {n f : ℕ} {bad : ℕ → Bool} (house : House n f bad) where
   pub quorum-meets : (p q : ℕ → Bool) → quorum n f ≤ count p n → 2 * f ≤ count q n → count (λ k. q k && bad k) n < f
       → (k : ℕ) × (k < n) × T (p k) × T (q k) × T (not (bad k))
   quorum-meets p q hp hq h =
-      let s = meet p q (λ k. q k && bad k) n (omega (arith, large)) in
+      let s = meet p q (λ k. q k && bad k) n (omega (arith, leb→le (fewest f) n (house .fits), house .some)) in
       (s .0, s .1, s .2, s .3, not-T (bad (s .0)) (λ b. T-not (q (s .0) && bad (s .0)) (s .4) (and-i (q (s .0)) (bad (s .0)) (s .3) b)))
 
   -- A good certificate of a later view has a correct signer.

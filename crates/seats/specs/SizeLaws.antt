@@ -1,5 +1,5 @@
 -- Laws of n and f: the largest f is what its name says, and what setup's numbers tell.
-use Prim.Native.Nat.{ℕ, zero, suc, _+_, _-_, _/_, _%_, _≤_, _<_}
+use Prim.Native.Nat.{ℕ, zero, suc, _+_, _/_, _%_, _≤_, _<_}
 use mathlib.Core.Bool.{Bool, true, false, not, _||_, cond}
 use mathlib.Core.List.{[], _∷_}
 use mathlib.Core.Path.{_≡_, refl, sym, ap, _∙_, subst}
@@ -47,13 +47,14 @@ most-largest n f l h t =
 abbrev pub quotient : ℕ → ℕ
 quotient n = (n + 1) / 5
 
+-- Of every n it is the largest f that fits.
 largest-quotient : (n : ℕ) → largest (bears n) n ≡ quotient n
 largest-quotient n =
     let a = leb→le (fewest (largest (bears n) n)) n (largest-passes (bears n) n (le→leb 0 n (omega arith))) in
     let b = largest-most (bears n) n (quotient n) (omega arith) (le→leb (fewest (quotient n)) n (omega arith)) in
     omega arith
 
--- Whatever n is, the largest f is that quotient, and 0 outside 4 to 64.
+-- So where n is 4 to 64, and else 0.
 pub most-quotient : (n : ℕ) → mostFaulty n ≡ cond (sizeAllowed n) (quotient n) 0
 unfolding mostFaulty
 most-quotient n = ap (λ f. cond (sizeAllowed n) f 0) (largest-quotient n)

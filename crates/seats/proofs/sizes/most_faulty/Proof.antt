@@ -9,7 +9,7 @@ use Rattle.seats.proofs.sizes.most_faulty.Tie as tie
 returns : tie.Need-returns
 returns c =
     let n = c .before .args .n in
-    simp (most-quotient n, le-leb 4 n (omega arith), lt-leb n 64 (c .if1 .taken))
+    simp (most-quotient n, le-leb 4 n (omega arith), lt-leb n 64 (omega arith))
 
 add-result : tie.Need-add-result
 add-result c = search needs
