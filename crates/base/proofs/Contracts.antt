@@ -4,7 +4,7 @@ use mathlib.Core.Bool.{cond}
 use mathlib.Core.Path.{refl}
 use Rattle.base.specs.Choosing.{larger}
 use Rattle.base.specs.ExactContracts.{Exact, gives}
-use Rattle.base.proofs as fn
+use Rattle.base.specs.contracts as fn
 
 module _ (w : World) where
   pub pick_says : Exact w fn.pick.ended fn.pick.spec (λ κs (c, (a, (b, _))). gives (cond c a b))

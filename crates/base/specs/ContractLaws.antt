@@ -42,11 +42,11 @@ returned_is_lem nothing r ps h = (tt, h)
 -- ---- what is left in lent memory
 abbrev last_of : {D : Type 0} (e : Exit D) (x : D) (Rest : Type 0) → LastValue e x Rest → Last e x
 last_of unchanged x Rest d = tt
-last_of (leaves L l S s) x Rest d = d.0
+last_of (leaves L l S s r₀) x Rest d = d.0
 
 abbrev rest_of : {D : Type 0} (e : Exit D) (x : D) (Rest : Type 0) → LastValue e x Rest → Rest
 rest_of unchanged x Rest d = d
-rest_of (leaves L l S s) x Rest d = d.1
+rest_of (leaves L l S s r₀) x Rest d = d.1
 
 -- The last values, one for each parameter, of which those that lend nothing have none.
 abbrev pub lasts_of : {n : ℕ} (κs : Lfts n) (ss : List (Slot n)) (ks : Kepts ss) (a : Denots (types_at ss κs)) → LastValues κs ss ks a → Fins κs ss ks a
@@ -59,7 +59,7 @@ lasts_of κs (s ∷ ss) ks a d =
 last_is_lem : {D : Type 0} (e : Exit D) (x : D) (Rest : Type 0) (f : Rest → List (Type 0)) (d : LastValue e x Rest) (w : Last e x)
     → every (last_is e x f d w) → (w ≡ last_of e x Rest d) × every (f (rest_of e x Rest d))
 last_is_lem unchanged x Rest f d w h = (refl, h)
-last_is_lem (leaves L l S s) x Rest f d w h = first_fact (w ≡ d.0) (f d.1) h
+last_is_lem (leaves L l S s r₀) x Rest f d w h = first_fact (w ≡ d.0) (f d.1) h
 
 lasts_are_lem : {n : ℕ} (κs : Lfts n) (ss : List (Slot n)) (ks : Kepts ss) (a : Denots (types_at ss κs)) (d : LastValues κs ss ks a) (ws : Fins κs ss ks a)
     → every (lasts_are κs ss ks a d ws) → ws ≡ lasts_of κs ss ks a d
@@ -82,7 +82,7 @@ module _ (w : World) (T : Ended) (contract : Contract w T) (answer : (κs : Lfts
   OneAnswer c = (g : c.ghost) (r : Res T.signature κs) → ent w.𝓤 (c.ensures g r)
       (sep w.𝓤 (sem w.𝓛 (lasts T κs a lasts_left)) (fact w.𝓤 (IsReturned (answer κs a).0 r)))
 
-  pub one_answer : Exact w T contract answer → OneAnswer (contract w.𝓤 w.𝓛 w.𝓜.mem w.𝓡.run κs a)
+  pub one_answer : Exact w T contract answer → OneAnswer (contract w.𝓛 w.𝓜.mem w.𝓡.run κs a)
   one_answer exact = subst OneAnswer (sym (exact κs a)) (λ g r. ex_e w.𝓤 _ (λ ws. given r ws))
     where
       last : Lasts T κs a → SProp w.𝓤

@@ -38,7 +38,7 @@ returned_is nothing r = []
 -- `leaves` with the type of the last value.
 abbrev pub LastValue : {D : Type 0} → Exit D → D → Type 0 → Type 0
 LastValue unchanged x rest = rest
-LastValue (leaves L l S s) x rest = L x × rest
+LastValue (leaves L l S s r₀) x rest = L x × rest
 
 abbrev pub LastValues : {n : ℕ} (κs : Lfts n) (ss : List (Slot n)) (ks : Kepts ss) → Denots (types_at ss κs) → Type 0
 LastValues κs [] ks a = Unit {0}
@@ -46,7 +46,7 @@ LastValues κs (s ∷ ss) ks a = LastValue ((s.row κs).exit ks.0) a.0 (LastValu
 
 abbrev pub last_is : {D : Type 0} (e : Exit D) (x : D) {Rest : Type 0} → (Rest → List (Type 0)) → LastValue e x Rest → Last e x → List (Type 0)
 last_is unchanged x rest d w = rest d
-last_is (leaves L l S s) x rest d w = (w ≡ d.0) ∷ rest d.1
+last_is (leaves L l S s r₀) x rest d w = (w ≡ d.0) ∷ rest d.1
 
 abbrev pub lasts_are : {n : ℕ} (κs : Lfts n) (ss : List (Slot n)) (ks : Kepts ss) (a : Denots (types_at ss κs)) → LastValues κs ss ks a → Fins κs ss ks a → List (Type 0)
 lasts_are κs [] ks a d ws = []
@@ -91,7 +91,7 @@ gives_and d e = (value d, (e, tt))
 -- ---- a contract, in a world in which its function runs (the kit's theorem about a function holds in all of them; it has one, `w₀`)
 module _ (w : World) where
   abbrev pub Contract : Ended → Type 2
-  Contract T = (𝓤 : Ura w.M) → (𝓛 : Logic 𝓤) → (Memory → SProp 𝓤) → (Routine → Fun 𝓤) → Spec 𝓤 T.signature
+  Contract T = Logic w.𝓤 → (Memory → SProp w.𝓤) → (Routine → Fun w.𝓤) → Spec w.𝓤 T.signature
 
   -- It asks nothing, and says that the answer is this function of the arguments.
   abbrev pub Exact : (T : Ended) → Contract T → ((κs : Lfts T.signature.lifetimes) (a : Args T.signature κs) → Promised T κs a) → Type 2
