@@ -1,3 +1,4 @@
+#![tactic(auto)]
 // Text of lines: fields, digits, and bytes put into lent memory. It knows nothing of messages.
 pub mod field; // field.rt: where a field ends, and where its line does
 pub mod digits; // digits.rt: the numbers that fields hold

@@ -6,8 +6,7 @@ use native.Mathlib.Omega.{arith}
 use lib.ListN.{get_or}
 use Rattle.text.specs.Digits.{hex_char}
 use borrow.Author.Rules.{rules}
-use Rattle.text.proofs.put.listed_char.Statement.{statement}
-use Rattle.text.proofs.put.listed_char.Tie as tie
+use Rattle.text.proofs.put.listed_char.Goals as goal
 
 -- The bytes of n digits from a on.
 abbrev chars : ℕ → ℕ → List ℕ
@@ -19,12 +18,6 @@ char_at zero a d h = absurd (omega arith)
 char_at (suc n) a zero h = ap hex_char (let z : a ≡ a + 0 = omega arith in z)
 char_at (suc n) a (suc d) h = char_at n (suc a) d (omega arith) ∙ ap hex_char (let z : suc a + d ≡ a + suc d = omega arith in z)
 
-array-read-result : tie.Need-array-read-result
-array-read-result c = search rules
-
-returns : tie.Need-returns
+pub returns : goal.returns
 unfolding hex_char
 returns c = char_at 16 0 c.args.d (search rules) ∙ ap hex_char (let z : 0 + c.args.d ≡ c.args.d = omega arith in z)
-
-pub listed_char_spec : {M : Type 1} → statement M
-listed_char_spec = tie.close (tie.spec array-read-result returns)
