@@ -1,3 +1,4 @@
+#![tactic(auto)]
 // The 16-byte entry, held as two big-endian words.
 ghost use Rattle.std.specs.Prelude.{◌≡◌};
 ghost use Rattle.entry.specs.Entry.{zero_entry, word_bytes, bytes_of, stretched, same, less, well_formed};
