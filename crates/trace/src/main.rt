@@ -1,6 +1,8 @@
 // Standard input to standard output, in constant memory: a window of the input, and a buffer in which the output is collected.
 // What is read and written no contract can say: a function that does either promises the rest, any other its whole answer.
 // What is done with the input stands in `transcript`.
+#![tactic(auto)]
+
 ghost use Rattle.std.specs.Prelude.{◌-◌, ◌≤◌, min, ◌≡◌, cond, ltb, length, take};
 ghost use Rattle.messages.specs.Writer.{lent};
 ghost use Rattle.transcript.specs.Feeding.{fed_of, cut_state, last_text, within};
@@ -14,14 +16,14 @@ use transcript::finish::finish;
 use transcript::lines::end_of_line;
 
 // buf[at..end] is what was read and not used yet.
-#[derive(Drop)]
+#[derive(Clone, Copy)]
 struct Window {
     at: usize,
     end: usize,
 }
 
 // A window that was read on: where it ends, whether one line filled it before, and whether the input is over.
-#[derive(Drop)]
+#[derive(Clone, Copy)]
 struct Refilled {
     end: usize,
     full: bool,
