@@ -1,4 +1,6 @@
 // The acknowledgement rows: one a seat, kept as a table by value.
+#![tactic(auto)]
+
 ghost use Rattle.std.specs.Prelude.{◌≡◌, not, ◌&&◌, eqb};
 ghost use Rattle.seats.specs.Mask.{mask, rows_of};
 ghost use Rattle.seats.specs.Seats.{count};
@@ -9,13 +11,13 @@ use entry::{Entry, table};
 use seats::{Seat, View, mask, sizes};
 
 // Empty where its view is 0.
-#[derive(Drop)]
+#[derive(Clone, Copy)]
 pub struct AckRow {
     pub view: View,
     pub entry: Entry,
 }
 
-#[derive(Drop)]
+#[derive(Clone, Copy)]
 pub struct Acks {
     pub entries: Entries,
     pub views: [u32; 64],

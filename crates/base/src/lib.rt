@@ -1,4 +1,6 @@
 // Choosing between two numbers without a branch in the caller, one function a width.
+#![tactic(auto)]
+
 ghost use Rattle.std.specs.Prelude.{◌≡◌, cond};
 ghost use Rattle.base.specs.Choosing.{larger};
 

@@ -12,7 +12,7 @@ use text::put::{has_room, put_hex};
 pub const DIGITS: usize = 2 * SIZE;
 
 // The entry that a field holds. Where it holds none it is not good, and its entry the zero entry.
-#[derive(Drop)]
+#[derive(Clone, Copy)]
 pub struct EntryField {
     pub good: bool,
     pub entry: Entry,

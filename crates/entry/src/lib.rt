@@ -1,5 +1,7 @@
 #![tactic(auto)]
 // The 16-byte entry, held as two big-endian words.
+#![tactic(auto)]
+
 ghost use Rattle.std.specs.Prelude.{◌≡◌};
 ghost use Rattle.entry.specs.Entry.{zero_entry, word_bytes, bytes_of, stretched, same, less, well_formed};
 
@@ -9,7 +11,7 @@ pub mod hex; // hex.rt: its text in a line
 // Bytes of an entry.
 pub const SIZE: usize = 16;
 
-#[derive(Drop)]
+#[derive(Clone, Copy)]
 pub struct Entry {
     pub hi: u64,
     pub lo: u64,

@@ -1,4 +1,6 @@
 // The messages and events, and their lines.
+#![tactic(auto)]
+
 pub mod read; // read.rt: the message of a line
 pub mod write; // write.rt: the line of a message
 pub mod setup; // setup.rt: the line H, which opens a trace
@@ -8,7 +10,7 @@ use seats::{Seat, View};
 use votes::Row;
 
 // Who says it, the mark on it, and the view it speaks of: what every message begins with.
-#[derive(Drop)]
+#[derive(Clone, Copy)]
 pub struct Head {
     pub seat: Seat,
     pub verified: bool,
@@ -16,13 +18,13 @@ pub struct Head {
 }
 
 // What A and C say: yes to this entry, in this view.
-#[derive(Drop)]
+#[derive(Clone, Copy)]
 pub struct Assent {
     pub head: Head,
     pub entry: Entry,
 }
 
-#[derive(Drop)]
+#[derive(Clone, Copy)]
 pub struct Proposal {
     pub head: Head,
     pub entry: Entry,
@@ -30,7 +32,7 @@ pub struct Proposal {
 }
 
 // A request without its rows: count says how many V lines follow it.
-#[derive(Drop)]
+#[derive(Clone, Copy)]
 pub struct Request {
     pub head: Head,
     pub entry: Entry,
@@ -38,7 +40,7 @@ pub struct Request {
 }
 
 // S, E, P, A, V, Q, C.
-#[derive(Drop)]
+#[derive(Clone, Copy)]
 pub enum Message {
     Start,
     Enter(View),

@@ -17,32 +17,32 @@ use text::{Number, WORD};
 use votes::{Row, Vote};
 
 // The message, or number 19.
-#[derive(Drop)]
+#[derive(Clone, Copy)]
 pub enum Line {
     Read(Message),
     Malformed,
 }
 
 // ---- one field, and where it ends
-#[derive(Drop)]
+#[derive(Clone, Copy)]
 pub(crate) struct NumberAt {
     pub number: Number,
     pub end: usize,
 }
 
-#[derive(Drop)]
+#[derive(Clone, Copy)]
 pub(crate) struct LetterAt {
     pub letter: u8,
     pub end: usize,
 }
 
-#[derive(Drop)]
+#[derive(Clone, Copy)]
 pub(crate) struct EntryAt {
     pub field: EntryField,
     pub end: usize,
 }
 
-#[derive(Drop)]
+#[derive(Clone, Copy)]
 pub(crate) struct Mark {
     pub good: bool,
     pub verified: bool,
@@ -103,14 +103,14 @@ fn mark_of(x: u8) -> Mark
 }
 
 // ---- what stands behind the kind, and whether it is all there
-#[derive(Drop)]
+#[derive(Clone, Copy)]
 struct HeadAt {
     good: bool,
     head: Head,
     end: usize,
 }
 
-#[derive(Drop)]
+#[derive(Clone, Copy)]
 struct AssentAt {
     good: bool,
     assent: Assent,

@@ -12,7 +12,7 @@ use text::field::{field, over};
 const SETUP: u8 = b'H';
 
 // What H says. Where f is left out, `dash` is set and f is 0: what a dash means is said where the trace begins.
-#[derive(Drop)]
+#[derive(Clone, Copy)]
 pub struct Setup {
     pub n: u8,
     pub f: u8,
@@ -22,14 +22,14 @@ pub struct Setup {
 }
 
 // What H says, or number 19.
-#[derive(Drop)]
+#[derive(Clone, Copy)]
 pub enum Opening {
     Read(Setup),
     Malformed,
 }
 
 // What the fields of n and f say, and where the second ends.
-#[derive(Drop)]
+#[derive(Clone, Copy)]
 struct SizesAt {
     good: bool,
     n: u8,

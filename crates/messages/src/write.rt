@@ -21,7 +21,7 @@ use text::{LF, TAB, WORD};
 use votes::{Row, Vote};
 
 // Number 0 and how long the line is, or 20 or 21 and 0.
-#[derive(Drop)]
+#[derive(Clone, Copy)]
 pub struct Written {
     pub number: u8,
     pub length: usize,

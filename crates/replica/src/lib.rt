@@ -1,4 +1,6 @@
 // One replica: what it remembers, and what an event makes of it.
+#![tactic(auto)]
+
 pub mod numbers; // numbers.rt: numbers of refusal, event by event
 mod parts; // parts.rt: what steps are put together from
 mod begin; // begin.rt: setup
@@ -14,7 +16,7 @@ use seats::{Seat, View};
 use votes::{Vote, VoteRows};
 
 // Idle, collecting, asking, proposed. Any other number is none of the four.
-#[derive(Drop)]
+#[derive(Clone, Copy)]
 pub struct Stage(pub u8);
 
 const IDLE: u8 = 0;
@@ -26,7 +28,7 @@ const ASKING: u8 = 2;
 const PROPOSED: u8 = 3;
 
 // The tables stand last, and before them an entry that every event reads: so each is moved by itself, and seldom.
-#[derive(Drop)]
+#[derive(Clone, Copy)]
 pub struct Replica {
     pub n: u8,
     pub f: u8,
@@ -45,7 +47,7 @@ pub struct Replica {
 }
 
 // What of a replica the table of refusals asks most.
-#[derive(Drop)]
+#[derive(Clone, Copy)]
 pub struct Standing {
     pub n: u8,
     pub f: u8,
@@ -55,21 +57,21 @@ pub struct Standing {
 }
 
 // What an event decides, reported once.
-#[derive(Drop)]
+#[derive(Clone, Copy)]
 pub enum Decided {
     Nothing,
     Now(Entry),
 }
 
 // At most one message goes out. The rows of a request are told one by one, by `request_row`.
-#[derive(Drop)]
+#[derive(Clone, Copy)]
 pub enum Sent {
     Nothing,
     Message(Message),
 }
 
 // What an event makes of a replica: the next one, the number of refusal, what is decided and sent.
-#[derive(Drop)]
+#[derive(Clone, Copy)]
 pub struct Step {
     pub next: Replica,
     pub number: u8,
@@ -77,7 +79,7 @@ pub struct Step {
     pub sent: Sent,
 }
 
-#[derive(Drop)]
+#[derive(Clone, Copy)]
 pub struct Reply {
     pub number: u8,
     pub decided: Decided,
@@ -86,7 +88,7 @@ pub struct Reply {
 }
 
 // A step, with the margin of the replica that it hands back.
-#[derive(Drop)]
+#[derive(Clone, Copy)]
 pub struct Answer {
     pub next: Replica,
     pub reply: Reply,

@@ -1,4 +1,6 @@
 // Seats and views, the leader rule, and the sizes of a house.
+#![tactic(auto)]
+
 ghost use Rattle.std.specs.Prelude.{◌≡◌};
 ghost use Rattle.seats.specs.Seats.{leader_of};
 
@@ -6,10 +8,10 @@ pub mod sizes; // sizes.rt: n and f, the largest f, what setup refuses of them
 pub mod mask; // mask.rt: sets of seats as 64 bits
 pub mod certificate; // certificate.rt: which masks are good certificates
 
-#[derive(Drop)]
+#[derive(Clone, Copy)]
 pub struct Seat(pub u8);
 
-#[derive(Drop)]
+#[derive(Clone, Copy)]
 pub struct View(pub u32);
 
 // The one way from a view to a seat.

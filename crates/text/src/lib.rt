@@ -1,5 +1,7 @@
 #![tactic(auto)]
 // Text of lines: fields, digits, and bytes put into lent memory. It knows nothing of messages.
+#![tactic(auto)]
+
 pub mod field; // field.rt: where a field ends, and where its line does
 pub mod digits; // digits.rt: the numbers that fields hold
 pub mod put; // put.rt: numbers put into lent memory as digits
@@ -13,7 +15,7 @@ pub const LF: u8 = b'\n';
 pub const WORD: usize = 16;
 
 // The number that a field holds. Where it holds none it is not good, and its value 0.
-#[derive(Drop)]
+#[derive(Clone, Copy)]
 pub struct Number {
     pub good: bool,
     pub value: u64,

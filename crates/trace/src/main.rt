@@ -1,27 +1,32 @@
 // Standard input to standard output, in constant memory: a window of the input, and a buffer in which the output is collected.
 // What is read and written no contract can say: a function that does either promises the rest, any other its whole answer.
 // What is done with the input stands in `transcript`.
+#![tactic(auto)]
+
 ghost use Rattle.std.specs.Prelude.{◌-◌, ◌≤◌, min, ◌≡◌, cond, ltb, length, take};
 ghost use Rattle.messages.specs.Writer.{lent};
 ghost use Rattle.transcript.specs.Feeding.{fed_of, cut_state, last_text, within};
 ghost use Rattle.trace.specs.Windows.{Inside, in_window, behind_by, ran_in, carried, refilled_to, ReadBehind, BehindFirst};
 
-use libc::{STDERR_FILENO, STDIN_FILENO, STDOUT_FILENO};
+use std::io::{Read, Write};
 use transcript::State;
 use transcript::begin::{begin, put_refusal};
 use transcript::feed::{Fed, feed};
 use transcript::finish::finish;
 use transcript::lines::end_of_line;
 
+// Bytes of the window of the input, and of the buffer of the output.
+const ROOM: usize = 65536;
+
 // buf[at..end] is what was read and not used yet.
-#[derive(Drop)]
+#[derive(Clone, Copy)]
 struct Window {
     at: usize,
     end: usize,
 }
 
 // A window that was read on: where it ends, whether one line filled it before, and whether the input is over.
-#[derive(Drop)]
+#[derive(Clone, Copy)]
 struct Refilled {
     end: usize,
     full: bool,
@@ -40,21 +45,25 @@ fn kept_if(keep: bool, n: usize) -> usize
     if keep { n } else { 0 }
 }
 
-// What failed goes to standard error: a program in Rattle has no status to say it with.
-fn complain_if(failed: bool, what: &[u8]) {
+// What failed goes to standard error, and the status stays 0. Where that cannot be written either, nothing more is said.
+fn complain_if(errors: &mut impl Write, failed: bool, what: &[u8]) {
     if failed {
-        io::write_all(STDERR_FILENO, what);
+        let _ = errors.write_all(what);
     }
 }
 
 // One read behind what is there. The end stays where it is when the input is over, or cannot be read.
-fn read_more(buf: &mut [u8], end: usize) -> usize
+fn read_more(input: &mut impl Read, errors: &mut impl Write, buf: &mut [u8], end: usize) -> usize
     requires { end ≤ length buf.old }
     ensures { ReadBehind (take end buf.old) result buf.new }
 {
-    let got = libc::read(STDIN_FILENO, &mut buf[end..]);
-    complain_if(got < 0, b"trace: standard input cannot be read\n");
-    end + io::count(got, &buf[end..])
+    match input.read(&mut buf[end..]) {
+        Ok(got) => end + got,
+        Err(_) => {
+            complain_if(errors, true, b"trace: standard input cannot be read\n");
+            end
+        }
+    }
 }
 
 // What is left goes to the front. Answers where it then ends.
@@ -73,14 +82,14 @@ fn shift(buf: &mut [u8], w: Window) -> usize
 }
 
 // One read behind what is left. A line that fills the window is too long to be any: its front is dropped.
-fn refill(buf: &mut [u8], w: Window) -> Refilled
+fn refill(input: &mut impl Read, errors: &mut impl Write, buf: &mut [u8], w: Window) -> Refilled
     requires { Inside w buf.old }
     ensures { (result ≡ refilled_to w buf.old result.end) × ReadBehind (carried w buf.old) result.end buf.new }
 {
     let left = shift(buf, w);
     let full = left == buf.len();
     let was = kept_if(!full, left);
-    let end = read_more(buf, was);
+    let end = read_more(input, errors, buf, was);
     Refilled {
         end: end,
         full: full,
@@ -102,7 +111,7 @@ fn behind(w: Window, used: usize) -> Window
 }
 
 // Reads until the first line is whole, the window is full or the input is over.
-fn read_first(buf: &mut [u8]) -> Window
+fn read_first(input: &mut impl Read, errors: &mut impl Write, buf: &mut [u8]) -> Window
     ensures { BehindFirst result buf.new }
 {
     let mut end: usize = 0;
@@ -110,7 +119,7 @@ fn read_first(buf: &mut [u8]) -> Window
     while 0 < turns {
         turns -= 1;
         let was = end;
-        end = read_more(buf, was);
+        end = read_more(input, errors, buf, was);
         let line = end_of_line(&buf[..end], 0);
         if (0 < line) | (end == was) {
             return Window { at: line, end: end };
@@ -120,10 +129,14 @@ fn read_first(buf: &mut [u8]) -> Window
 }
 
 // False when it cannot be written.
-fn write_front(out: &[u8], put: usize) -> bool {
+fn write_front(output: &mut impl Write, errors: &mut impl Write, out: &[u8], put: usize) -> bool {
     let n = least(put, out.len());
-    let written = io::write_all(STDOUT_FILENO, &out[..n]);
-    complain_if(!written, b"trace: standard output cannot be written\n");
+    let written = output.write_all(&out[..n]).is_ok();
+    complain_if(
+        errors,
+        !written,
+        b"trace: standard output cannot be written\n",
+    );
     written
 }
 
@@ -143,15 +156,29 @@ fn cut_if(full: bool, state: State) -> State
 }
 
 // What the end of the input prints.
-fn write_last(state: State, w: Window, out: &mut [u8])
+fn write_last(
+    output: &mut impl Write,
+    errors: &mut impl Write,
+    state: State,
+    w: Window,
+    out: &mut [u8],
+)
     ensures { out.new ≡ lent out.old (within (length out.old) (last_text state (ltb w.at w.end))) }
 {
     let put = finish(state, w.at < w.end, out);
-    write_front(out, put);
+    write_front(output, errors, out, put);
 }
 
 // The events. A turn counts down, since a proved loop has to end and nothing says that the input does.
-fn go_on(first: State, rest: Window, buf: &mut [u8], out: &mut [u8])
+fn go_on(
+    input: &mut impl Read,
+    output: &mut impl Write,
+    errors: &mut impl Write,
+    first: State,
+    rest: Window,
+    buf: &mut [u8],
+    out: &mut [u8],
+)
     requires { Inside rest buf.old }
 {
     let mut state = first;
@@ -163,13 +190,13 @@ fn go_on(first: State, rest: Window, buf: &mut [u8], out: &mut [u8])
         let next = fed.state;
         state = next;
         w = behind(w, fed.used);
-        if !write_front(out, fed.put) {
+        if !write_front(output, errors, out, fed.put) {
             return;
         }
         if 0 < fed.used {
             continue;
         }
-        let more = refill(buf, w);
+        let more = refill(input, errors, buf, w);
         w = Window {
             at: 0,
             end: more.end,
@@ -178,28 +205,41 @@ fn go_on(first: State, rest: Window, buf: &mut [u8], out: &mut [u8])
         // No turn is left when the input is over.
         turns = kept_if(!more.over, turns);
     }
-    write_last(state, w, out);
+    write_last(output, errors, state, w, out);
 }
 
-fn run(buf: &mut [u8], out: &mut [u8]) {
-    let w = read_first(buf);
+fn run(
+    input: &mut impl Read,
+    output: &mut impl Write,
+    errors: &mut impl Write,
+    buf: &mut [u8],
+    out: &mut [u8],
+) {
+    let w = read_first(input, errors, buf);
     let h = w.at;
     let begun = begin(&buf[..h]);
     if begun.number != 0 {
         let put = put_refusal(out, begun.number);
-        write_front(out, put);
+        write_front(output, errors, out, put);
         complain_if(
+            errors,
             begun.number == 19,
             b"trace: the first line must be H, n, f, seat and entry (32 digits of 0-9a-f), with one tab and no blanks between two of them, and a line feed at the end\n",
         );
         return;
     }
     let first = begun.state;
-    go_on(first, w, buf, out);
+    go_on(input, output, errors, first, w, buf, out);
 }
 
-fn main() {
-    let mut buf = io::large_buffer();
-    let mut out = io::large_buffer();
-    run(&mut buf, &mut out);
+fn main(rt: HostRuntime) {
+    let mut buf = [0u8; ROOM];
+    let mut out = [0u8; ROOM];
+    run(
+        &mut rt.stdin(),
+        &mut rt.stdout(),
+        &mut rt.stderr(),
+        &mut buf,
+        &mut out,
+    );
 }

@@ -18,7 +18,7 @@ use text::{LF, TAB};
 use votes::Rows;
 
 // 19 or setup's number, and where the trace then stands.
-#[derive(Drop)]
+#[derive(Clone, Copy)]
 pub struct Begun {
     pub number: u8,
     pub state: State,

@@ -14,7 +14,7 @@ use replica::{Decided, Sent};
 use votes::Rows;
 
 // How much of the input was used, how much output was put, and where the trace then stands.
-#[derive(Drop)]
+#[derive(Clone, Copy)]
 pub struct Fed {
     pub used: usize,
     pub put: usize,

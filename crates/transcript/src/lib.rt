@@ -1,4 +1,6 @@
 // What `trace` does with text: lines go in, and lines come out.
+#![tactic(auto)]
+
 ghost use Rattle.std.specs.Prelude.{◌≡◌};
 
 pub mod lines; // lines.rt: where a line ends
@@ -13,7 +15,7 @@ use replica::Replica;
 use votes::Rows;
 
 // Where a trace stands between two lines. Only `begin` and `resume` make one, so that its margin was counted.
-#[derive(Drop)]
+#[derive(Clone, Copy)]
 pub struct State {
     // How many events were printed.
     events: u64,

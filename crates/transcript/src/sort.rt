@@ -6,7 +6,7 @@ use messages::read::{Line, read_line};
 use messages::{Message, Request};
 use votes::Row;
 
-#[derive(Drop)]
+#[derive(Clone, Copy)]
 pub(crate) enum Event {
     // 19, or a row that is none
     Unread,
@@ -18,7 +18,7 @@ pub(crate) enum Event {
 }
 
 // The event, and what is then left to come of a request's rows.
-#[derive(Drop)]
+#[derive(Clone, Copy)]
 pub(crate) struct Sorted {
     pub event: Event,
     pub left: u8,

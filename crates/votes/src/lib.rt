@@ -1,4 +1,6 @@
 // Votes and the selection.
+#![tactic(auto)]
+
 pub mod valid; // valid.rt: when a vote is valid; 64 votes
 mod search; // search.rt: what the steps look for among the rows
 pub mod steps; // steps.rt: the five steps over the leader's table
@@ -12,7 +14,7 @@ use entry::table::Entries;
 use seats::{Seat, View};
 
 // nil where it is not cast; its other fields then do not count.
-#[derive(Drop)]
+#[derive(Clone, Copy)]
 pub struct Vote {
     pub entry: Entry,
     pub mask: u64,
@@ -22,7 +24,7 @@ pub struct Vote {
 }
 
 // 64 votes: the flags are masks, bit k is vote k's.
-#[derive(Drop)]
+#[derive(Clone, Copy)]
 pub struct Votes {
     pub cast: u64,
     pub verified: u64,
@@ -32,14 +34,14 @@ pub struct Votes {
 }
 
 // The leader's table: vote k is seat k's, and counts where bit k is set in `filled`.
-#[derive(Drop)]
+#[derive(Clone, Copy)]
 pub struct VoteRows {
     pub filled: u64,
     pub votes: Votes,
 }
 
 // What a V line says, and what a request carries.
-#[derive(Drop)]
+#[derive(Clone, Copy)]
 pub struct Row {
     pub seat: Seat,
     pub verified: bool,
@@ -48,7 +50,7 @@ pub struct Row {
 }
 
 // Rows gathered one after the other, for n, f and the view that they are collected for. Only `none` and `add` make one.
-#[derive(Drop)]
+#[derive(Clone, Copy)]
 pub struct Rows {
     view: View,
     // The lowest seat that the next row may have.
@@ -61,13 +63,13 @@ pub struct Rows {
 }
 
 // A seat's row of a request.
-#[derive(Drop)]
+#[derive(Clone, Copy)]
 pub enum SeatRow {
     Empty,
     Filled(Row),
 }
 
-#[derive(Drop)]
+#[derive(Clone, Copy)]
 pub enum Choice {
     Wait,
     Free,
@@ -75,7 +77,7 @@ pub enum Choice {
 }
 
 // The choice, or the number of refusal.
-#[derive(Drop)]
+#[derive(Clone, Copy)]
 pub enum Selected {
     Refused(u8),
     Chosen(Choice),

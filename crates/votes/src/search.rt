@@ -15,7 +15,7 @@ use entry::{Entry, table};
 use seats::{View, mask};
 
 // The smallest entry so far, if there is one.
-#[derive(Drop)]
+#[derive(Clone, Copy)]
 pub(crate) struct Best {
     pub found: bool,
     pub entry: Entry,
