@@ -9,8 +9,7 @@ use borrow.Author.Tests.{leb-true, leb-false, lt-ltb, le-ltb, le-leb}
 use Rattle.seats.specs.Mask.{mask, rows_of}
 use Rattle.seats.specs.Marks.{full_is, rows_is, rows_past}
 use borrow.Author.Rules.{rules}
-use Rattle.seats.proofs.mask.within.Statement.{statement}
-use Rattle.seats.proofs.mask.within.Tie as tie
+use Rattle.seats.proofs.mask.within.Goals as goal
 
 -- A number of 64 bits is at most the mask of all seats below n exactly if it is below the n-th power.
 at_most : (m n : ℕ) → m < 2 ^ 64 → (b : Bool) → leb n 64 ≡ b → leb m (mask (λ k. true) (rows_of n)) ≡ ltb m (2 ^ n)
@@ -24,13 +23,7 @@ at_most m n h false e =
     ap (leb m) (ap (mask (λ k. true)) (rows_past n (omega arith))) ∙ le-leb m (mask (λ k. true) 64) (omega (arith, full_is 0 64))
     ∙ sym (lt-ltb m (2 ^ n) (lt_of_lt_of_le h (pow_mono (let z : 64 ≤ n = omega arith in z))))
 
-below-requires : tie.Need-below-requires
-below-requires c κs = search rules
-
-returns : tie.Need-returns
-returns c = let m = c.before.args.m in
-    let n = c.before.args.n in
+pub returns : goal.returns
+returns c = let m = c.args.m in
+    let n = c.args.n in
     ap (leb m) c.below.ensures ∙ at_most m n (search rules) (leb n 64) refl
-
-pub within_spec : {M : Type 1} → statement M
-within_spec = tie.close (tie.spec below-requires returns)
