@@ -1,4 +1,3 @@
-#![tactic(auto)]
 // The 16-byte entry, held as two big-endian words.
 #![tactic(auto)]
 

@@ -1,4 +1,3 @@
-#![tactic(auto)]
 // Text of lines: fields, digits, and bytes put into lent memory. It knows nothing of messages.
 #![tactic(auto)]
 
