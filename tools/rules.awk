@@ -113,6 +113,7 @@ function prove(    line, at, path, said, name) {
         if (line ~ /^logic=/) verdict = line
         if (line ~ /^status=/) status = substr(line, 8)
         if (line !~ /^error: |^[^ ].*: error: /) continue
+        if (line ~ /: error: [0-9]+ declarations? that depends? on `.*were not checked: |: error: [0-9]+ declarations? that depends? on `.*was not checked: /) { fallen(line); continue }
         at = index(line, "error: ")
         path = substr(line, 1, at - 1)
         said = substr(line, at + 7)
@@ -130,6 +131,13 @@ function prove(    line, at, path, said, name) {
         if (fact_fails(said)) own[path " " name] = 1
     }
     close(log_at)
+}
+
+# What the prover did not look at, since it cites what is not proved.
+function fallen(line,    names, n, i) {
+    sub(/^.* not checked: /, "", line)
+    n = split(line, names, /, | and /)
+    for (i = 1; i <= n; i += 1) unproved[names[i]] = 1
 }
 
 # A fact is missed, in the prover's words: two types, sides or indices differ, or nothing proves it. Anything else, as a name that is not known or a

@@ -27,23 +27,16 @@ bare() { # NAME COPY
     done
 }
 
-# The crates that it stands on, as words for the prover.
-words_of() { # NAME
-    for below in $(sed -n "s/^$1: *//p" crates.txt); do
-        printf " --extern %s='%s'" "$below" "$PWD/target/rlib/$below.rlib"
-    done
-    printf " -L dependency='%s'" "$PWD/target/rlib"
-}
-
 # One block, or the crate unchanged, in a copy of its own. What the prover checked of the crate unchanged is kept for this run: beside an edit
 # it checks again what stands on the file that was edited.
 one() { # NAME [BLOCK]
     label=$1.${2:-unchanged}
     bare "$1" "$copies/$label/$1"
-    [ $# -eq 1 ] || cp -R "$copies/$1.unchanged/kept" "$copies/$label"
+    from=
+    [ $# -eq 1 ] || from=$copies/$1.unchanged/kept
     began=$(date +%s)
     awk -v crate="$1" -v edit="${2:-}" -v copy="$copies/$label/$1" -v log_at="$PWD/target/log/rules.$label.log" \
-        -v ask="rt check '$copies/$label/$1'$(words_of "$1") --incremental '$copies/$label/kept'" -f tools/rules.awk "crates/$1/rules.txt"
+        -v ask="bash tools/prover.sh $1 '$copies/$label/$1' '$copies/$label/kept' $from" -f tools/rules.awk "crates/$1/rules.txt"
     echo "$1 ${2:-unchanged} $? $(($(date +%s) - began))" >>"$copies/done"
     [ $# -eq 1 ] || rm -rf "${copies:?}/$label"
 }
@@ -68,7 +61,9 @@ over() {
 [ $# -gt 0 ] || set -- $(bash tools/listed.sh libraries)
 for crate in "$@"; do
     grep -qs '^name: ' "crates/$crate/rules.txt" || { echo "$crate: there is no rule in crates/$crate/rules.txt"; exit 2; }
-    [ -e "target/rlib/$crate.rlib" ] || { echo "rules.sh: $crate is not proved: run rt check $crate first"; exit 2; }
+    for below in $(sed -n "s/^$crate: *//p" crates.txt); do
+        [ -d "crates/$below/out/rlib/$below.rlib" ] || { echo "rules.sh: $below is not built: run rt ci or rt all check first"; exit 2; }
+    done
 done
 
 # First with no rule changed: what is left of a crate must be proved.
