@@ -6,8 +6,7 @@ use Rattle.entry.specs.declared.Entry.{Entry}
 use Rattle.entry.specs.Entry.{less}
 use Rattle.votes.specs.Steps.{lowered}
 use borrow.Author.Rules.{rules}
-use Rattle.votes.proofs.search.lower.Statement.{statement}
-use Rattle.votes.proofs.search.lower.Tie as tie
+use Rattle.votes.proofs.search.lower.Goals as goal
 
 -- The old entry stays where the new one does not pass, or the old one is smaller.
 kept : (p f l : Bool) (e o : Entry) → l ≡ less o e → (not p || (f && l)) ≡ true → cond f (some o) none ≡ lowered p e (cond f (some o) none)
@@ -22,18 +21,10 @@ replaced true true true e o q h = true≢false h
 replaced true true false e o q h = ap (λ b. some (cond b o e)) q
 replaced true false l e o q h = refl
 
-less-requires : tie.Need-less-requires
-less-requires c κs = search rules
+pub returns-then-keep : goal.returns-then-keep
+returns-then-keep c =     let a = c.args in
+    kept a.passes a.b.found c.less.result a.e a.b.entry c.less.ensures c.if-keep.true
 
-returns : tie.Need-returns
-returns c = let le = c.before.before in
-    let a = le.before.before.args in
-    kept a.passes a.b.found le.less.result a.e a.b.entry le.less.ensures c.if1.true
-
-returns-2 : tie.Need-returns-2
-returns-2 c = let le = c.before.before in
-    let a = le.before.before.args in
-    replaced a.passes a.b.found le.less.result a.e a.b.entry le.less.ensures c.if1.false
-
-pub lower_spec : {M : Type 1} → statement M
-lower_spec = tie.close (tie.spec less-requires returns returns-2)
+pub returns-else-keep : goal.returns-else-keep
+returns-else-keep c =     let a = c.args in
+    replaced a.passes a.b.found c.less.result a.e a.b.entry c.less.ensures c.if-keep.false

@@ -1,0 +1,7 @@
+use Rattle.votes.specs.Rows.{added, sound}
+use borrow.Author.Rules.{rules}
+use Rattle.votes.proofs.Rows.add.Goals as goal
+
+pub returns : goal.returns
+unfolding added sound
+returns c = simp (c.with_vote-table.ensures, c.valid.ensures)

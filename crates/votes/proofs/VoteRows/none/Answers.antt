@@ -1,0 +1,5 @@
+use borrow.Author.Rules.{rules}
+use Rattle.votes.proofs.VoteRows.none.Goals as goal
+
+pub returns : goal.returns
+returns c = simp c.no_entries.ensures
