@@ -1,6 +1,6 @@
 -- The paper's three quorum facts, once for all n and f with 5f − 1 ≤ n and f ≥ 1, and whom a certificate must have among its signers.
 use Rattle.std.proofs.Math.Path.{subst}
-use Rattle.std.specs.Prelude.{Bool, ◌&&◌, ◌||◌, cond, ℕ, ◌+◌, ◌-◌, ◌*◌, ◌^◌, ◌≤◌, ◌<◌, eqb, ltb}
+use Rattle.std.specs.Prelude.{Bool, ◌&&◌, ◌||◌, cond, ℕ, ◌+◌, ◌*◌, ◌^◌, ◌≤◌, ◌<◌, eqb, ltb}
 use Rattle.std.proofs.Math.Bool.{not}
 use Rattle.std.proofs.Common.{arith, T_not, lit≤, ne_eqb}
 use Rattle.std.proofs.Math.Dec.{T, not_T, leb, leb→le, ltb→lt}
