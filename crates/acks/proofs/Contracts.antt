@@ -3,7 +3,7 @@ use borrow.Fn.World.{World}
 use mathlib.Core.Path.{refl}
 use Rattle.base.specs.ExactContracts.{Exact, gives, becomes}
 use Rattle.acks.specs.Acks.{acks_of, margin, most, no_acks, row_of, sharers, shares, view_at, with_row, with_view}
-use Rattle.acks.proofs as fn
+use Rattle.acks.specs.contracts as fn
 
 module _ (w : World) where
   pub view_at_says : Exact w fn.view_at.ended fn.view_at.spec (λ κs (views, (k, _)). gives (view_at views.now k))

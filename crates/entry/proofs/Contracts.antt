@@ -7,7 +7,7 @@ use Rattle.text.specs.Put.{placed}
 use Rattle.entry.specs.Entry.{bytes_of, less, same, well_formed, zero_entry}
 use Rattle.entry.specs.Hex.{entry_field, entry_text}
 use Rattle.entry.specs.Table.{entry_at, table_words, with_entry}
-use Rattle.entry.proofs as fn
+use Rattle.entry.specs.contracts as fn
 
 module _ (w : World) where
   pub read_entry_says : Exact w fn.hex.read_entry.ended fn.hex.read_entry.spec (λ κs (t, _). gives (entry_field t.now))

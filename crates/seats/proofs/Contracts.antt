@@ -7,7 +7,7 @@ use Rattle.seats.specs.Certificate.{good_certificate}
 use Rattle.seats.specs.Mask.{bit, mask, put_seat, rows_of, seats_in, with_seat, within, without}
 use Rattle.seats.specs.Seats.{leader_of}
 use Rattle.seats.specs.Sizes.{most_faulty, quorum, seat_number, size_number}
-use Rattle.seats.proofs as fn
+use Rattle.seats.specs.contracts as fn
 
 module _ (w : World) where
   pub good_certificate_says : Exact w fn.certificate.good_certificate.ended fn.certificate.good_certificate.spec

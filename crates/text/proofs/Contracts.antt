@@ -6,7 +6,7 @@ use Rattle.base.specs.ExactContracts.{Exact, gives, gives_and, shows, becomes}
 use Rattle.text.specs.Digits.{decimal, decimal_of, hex, hex_of, letter_of, width}
 use Rattle.text.specs.Fields.{field_at, over, place_behind}
 use Rattle.text.specs.Put.{placed, room}
-use Rattle.text.proofs as fn
+use Rattle.text.specs.contracts as fn
 
 module _ (w : World) where
   pub decimal_says : Exact w fn.digits.decimal.ended fn.digits.decimal.spec (λ κs (t, (max, _)). gives (decimal_of max t.now))

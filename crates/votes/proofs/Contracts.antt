@@ -9,7 +9,7 @@ use Rattle.seats.specs.Mask.{mask}
 use Rattle.votes.specs.Request.{gathered_refusals, row_sent}
 use Rattle.votes.specs.Rows.{added, chosen, gathered, has_row, no_rows, no_votes, selected, selected_from, table_of, votes_of, with_number, with_vote}
 use Rattle.votes.specs.Vote.{valid}
-use Rattle.votes.proofs as fn
+use Rattle.votes.specs.contracts as fn
 
 module _ (w : World) where
   pub vote_rows_none_says : Exact w fn.VoteRows.none.ended fn.VoteRows.none.spec (λ κs _. gives no_votes)
