@@ -12,7 +12,7 @@ use Rattle.base.specs.Refusal.{first}
 use Rattle.messages.specs.declared.Message.TheVariants.{Start, Enter, Propose, Acknowledge, Cast, Ask, Confirm}
 use Rattle.replica.specs.Refusals.{setup_refusals}
 use Rattle.replica.specs.Steps.{answer_of, ask_with, setup_step, step}
-use Rattle.replica.proofs as fn
+use Rattle.replica.specs.contracts as fn
 
 module _ (w : World) where
   -- ---- the methods with the margin

@@ -3,7 +3,7 @@ use mathlib.Core.Path.{◌≡◌, refl}
 use mathlib.Core.List.{List, [], ◌∷◌}
 use Prim.Native.Nat.{ℕ}
 use seplogic.Ra.Ura.{Ura}
-use mir.Syntax.{Name, Place, Fn, Opd as Operand, Body, copy, place, seq, call}
+use mir.Syntax.{Callee, Place, Fn, Opd as Operand, Body, copy, place, seq, call}
 use mir.Val.{Val}
 use base.Logic.{SProp, ent, sep, emp, id⊢, ex_e, snd∗, via}
 use base.Fml.{Share, fat}
@@ -96,9 +96,9 @@ module _ {M : Type 1} {𝓤 : Ura M} (𝓛 : Logic 𝓤) (T : Ended) (c : Clause
   -- a walk ends with the answer, and the tokens that it was lent
   pub ends : (y : walking.Ghost) (v : Val) (r : (Answer 𝓛 T c y).Denot) (ws : Lasts T y.0.0 y.0.3)
       → ent 𝓤 (emp 𝓤) (Ensures 𝓛 T c y r (at_exit T y.0.0 y.0.3 ws))
-      → ent 𝓤 (sep 𝓤 (sem 𝓛 ((Answer 𝓛 T c y).own r (v ∷ []))) (tokens 𝓛 T c y)) (walking.post y v)
+      → ent 𝓤 (sep 𝓤 (sem 𝓛 ((Answer 𝓛 T c y).own_val r (v ∷ []))) (tokens 𝓛 T c y)) (walking.post y v)
   ends y v r ws said =
-      qed 𝓛 (‵ ((Answer 𝓛 T c y).own r (v ∷ [])) ∷ raw (tokens 𝓛 T c y) ∷ []) ∵
+      qed 𝓛 (‵ ((Answer 𝓛 T c y).own_val r (v ∷ [])) ∷ raw (tokens 𝓛 T c y) ∷ []) ∵
       suffices ! _ (ends_at 𝓛 T (Gone T) c y v r ws (fit_dropped y.0.0 T.signature.params T.kept y.0.3 ws)) $
       use0 𝓛 (‵ (has_of y.0.0 T.signature.params T.kept (Gone T) y.0.3 ws y.0.4))
       (had_dropped 𝓛 y.0.0 T.signature.params T.kept y.0.3 ws y.0.4) $
@@ -126,22 +126,22 @@ module _ {M : Type 1} {𝓤 : Ura M} {𝓛 : Logic 𝓤} {K : Type 0} {Γ : List
       → Opd K 𝓛 Γ E (copy (place i [])) v
   reads t k e = load t (from t (stop t)) (look t k e)
 
-  module _ {C : Calls 𝓤 H} {Λ : Loops 𝓤 H} {q : Post 𝓤 H} {f : Name} {xs : List Operand} {d : Place} where
+  module _ {C : Calls 𝓤 H} {Λ : Loops 𝓤 H} {q : Post 𝓤 H} {f : Callee} {xs : List Operand} {d : Place} where
     -- a call of a function whose contract says its answer: what it asks is at the head, and then the answer and the tokens
     pub calls_for : K → FmC 𝓤 H 𝓛.laws C → {rest : Body} (T : Ended) (c : Clauses 𝓤 T) → Meets 𝓛 T.signature (C f) (closing 𝓛 T c)
         → (y : Passing 𝓛 T c) (x : (Answer 𝓛 T c y).Denot) → Says 𝓛 T c y x
         → Opds K 𝓛 (raw (asks 𝓛 T c y) ∷ Γ) E xs (passed 𝓛 T.signature y.0)
-        → ((v : Val) → Is (Answer 𝓛 T c y) x (v ∷ []) → Seq K 𝓛 (‵ ((Answer 𝓛 T c y).own x (v ∷ [])) ∷ raw (tokens 𝓛 T c y) ∷ Γ) (lands C Λ E d v rest q))
+        → ((v : Val) → Is (Answer 𝓛 T c y) x (v ∷ []) → Seq K 𝓛 (‵ ((Answer 𝓛 T c y).own_val x (v ∷ [])) ∷ raw (tokens 𝓛 T c y) ∷ Γ) (lands C Λ E d v rest q))
         → Seq K 𝓛 (raw (asks 𝓛 T c y) ∷ Γ) (runs C Λ E (seq (call f xs d) rest) q)
     calls_for t fm T c met y x says os k =
         let Q : RattleType = Answer 𝓛 T c y in
         let says_all : Q.Denot → SProp 𝓤 = λ r. ensured 𝓛 T c y.0.0 y.0.3 y.1 r in
         calls_at t fm (triple_of 𝓛 T.signature (closing 𝓛 T c)) met y os (λ v.
-        use1 𝓛 (later (some (λ (r : Q.Denot). (raw (tokens 𝓛 T c y) ⊛ ‵ (Q.own r (v ∷ []))) ⊛ raw (says_all r)))) (id⊢ 𝓤 _) $ await t tt $ pick t (λ r.
+        use1 𝓛 (later (some (λ (r : Q.Denot). (raw (tokens 𝓛 T c y) ⊛ ‵ (Q.own_val r (v ∷ []))) ⊛ raw (says_all r)))) (id⊢ 𝓤 _) $ await t tt $ pick t (λ r.
         split t $ move t (1 ∷ []) $
         use1 𝓛 (raw (fact 𝓤 (r ≡ x)))
         (ex_e 𝓤 _ (λ ws. via 𝓤 _ (snd∗ 𝓤 (sem 𝓛 (lasts T y.0.0 y.0.3 ws)) _) (says r (at_exit T y.0.0 y.0.3 ws)))) $
-        heard t (r ≡ x) (λ e. split t $ move t (1 ∷ []) $ rewrite t 0 (λ (z : Q.Denot). ‵ (Q.own z (v ∷ []))) e refl $
+        heard t (r ≡ x) (λ e. split t $ move t (1 ∷ []) $ rewrite t 0 (λ (z : Q.Denot). ‵ (Q.own_val z (v ∷ []))) e refl $
         peeks t Q (Is Q) (shows 𝓛 Q) x (v ∷ []) (k v))))
 
     -- the same of a function over plain data: what it asks is made for the call, and there is no token
@@ -149,7 +149,7 @@ module _ {M : Type 1} {𝓤 : Ura M} {𝓛 : Logic 𝓤} {K : Type 0} {Γ : List
         → (y : Passing 𝓛 T c) (x : (Answer 𝓛 T c y).Denot) → ent 𝓤 (emp 𝓤) (tokens 𝓛 T c y) → ent 𝓤 (emp 𝓤) (requires 𝓛 T c y) → Says 𝓛 T c y x
         → Makess 𝓛 (Types T y.0.0) (Ises (Types T y.0.0)) → Are (Types T y.0.0) (Ises (Types T y.0.0)) y.0.3 y.0.4
         → Opds K 𝓛 (raw (asks 𝓛 T c y) ∷ Γ) E xs (passed 𝓛 T.signature y.0)
-        → ((v : Val) → Is (Answer 𝓛 T c y) x (v ∷ []) → Seq K 𝓛 (‵ ((Answer 𝓛 T c y).own x (v ∷ [])) ∷ Γ) (lands C Λ E d v rest q))
+        → ((v : Val) → Is (Answer 𝓛 T c y) x (v ∷ []) → Seq K 𝓛 (‵ ((Answer 𝓛 T c y).own_val x (v ∷ [])) ∷ Γ) (lands C Λ E d v rest q))
         → Seq K 𝓛 Γ (runs C Λ E (seq (call f xs d) rest) q)
     calls_plain t fm T c met y x none met-requires says makes are os k =
         use0 𝓛 (raw (requires 𝓛 T c y)) met-requires $
