@@ -1,5 +1,4 @@
 use Rattle.votes.specs.Rows.{added, sound}
-use borrow.Author.Rules.{rules}
 use Rattle.votes.proofs.Rows.add.Goals as goal
 
 pub returns : goal.returns

@@ -1,5 +1,4 @@
 use Rattle.votes.specs.Rows.{no_rows}
-use borrow.Author.Rules.{rules}
 use Rattle.votes.proofs.Rows.none.Goals as goal
 
 pub returns : goal.returns

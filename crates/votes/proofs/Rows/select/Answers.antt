@@ -10,7 +10,6 @@ use Rattle.votes.specs.SelectionExt.{selection_ext}
 use Rattle.votes.specs.Rows.{vote_at, selected_from, call_number, rows_number}
 use Rattle.votes.specs.RowLaws.{call_taken, rows_refused, rows_taken, answered_refused, answered_taken}
 use Rattle.votes.specs.Steps.{bare_votes}
-use borrow.Author.Rules.{rules}
 use Rattle.votes.proofs.Rows.select.Goals as goal
 use Rattle.votes.proofs.Rows.select.Goals.{After-below, Else-number-ne0}
 
@@ -37,23 +36,23 @@ returns-then-number-ne0 c = let t = c.args.self in
 
 pub returns-then-self : goal.returns-then-self
 unfolding selected_from
-returns-then-self c =     let t = c.args.self in
+returns-then-self c = let t = c.args.self in
     let same : rows_number t.n t.f t.view t.broken ≡ 15 =
     rows_taken t.n t.f t.view t.broken (number_0 (goal.at.returns-then-self c).Else-number-ne0) ∙ ap (λ b. cond b 15 0) c.if-self.true in
     ap Selected.Refused (sym same) ∙ answered_refused _ _ (λ z. omega arith)
 
 pub five_steps-requires : goal.five_steps-requires
-five_steps-requires c =         let a = allowed (goal.at.five_steps-requires c).After-call_number-number in
-    (omega (arith, a.least), a.most, (inside (goal.at.five_steps-requires c).After-table-1).below)
+five_steps-requires c = let a = allowed (goal.at.five_steps-requires c).Else-number-ne0 in
+    (omega (arith, a.least), a.most, (inside (goal.at.five_steps-requires c).After-below).below)
 
 pub returns : goal.returns
 unfolding selected_from vote_at
-returns c =             let t = c.args.self in
+returns c = let t = c.args.self in
     let same : rows_number t.n t.f t.view t.broken ≡ 0 =
-    rows_taken t.n t.f t.view t.broken (number_0 (goal.at.returns c).After-call_number-number) ∙ ap (λ b. cond b 15 0) c.if-self.false in
+    rows_taken t.n t.f t.view t.broken (number_0 (goal.at.returns c).Else-number-ne0) ∙ ap (λ b. cond b 15 0) c.if-self.false in
     ap Selected.Chosen
     (c.five_steps.ensures
     ∙ selection_ext t.n t.f (bit (bit_and c.below.result t.table.filled)) (bit t.table.filled)
-    (vote_at (bare_votes t.table.votes.cast t.table.votes.entries t.table.votes.views)) (vote_at t.table.votes) (inside (goal.at.returns c).After-table-1).at
+    (vote_at (bare_votes t.table.votes.cast t.table.votes.entries t.table.votes.views)) (vote_at t.table.votes) (inside (goal.at.returns c).After-below).at
     (λ k l u. record { cast = refl; view = λ x. refl; entry = λ x. refl }))
     ∙ answered_taken _ _ same

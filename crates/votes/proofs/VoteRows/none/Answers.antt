@@ -1,4 +1,3 @@
-use borrow.Author.Rules.{rules}
 use Rattle.votes.proofs.VoteRows.none.Goals as goal
 
 pub returns : goal.returns

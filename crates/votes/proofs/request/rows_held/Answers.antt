@@ -1,5 +1,4 @@
 use borrow.Author.Tests.{lt-leb, le-leb}
-use borrow.Author.Rules.{rules}
 use Rattle.votes.proofs.request.rows_held.Goals as goal
 
 pub returns-then-n-gt64 : goal.returns-then-n-gt64

@@ -1,14 +1,12 @@
-use Prim.Native.Nat.{ℕ, ◌≤◌, ◌<◌, ◌-◌, ◌+◌, ◌*◌, ◌^◌}
+use Prim.Native.Nat.{◌<◌, ◌-◌, ◌+◌, ◌*◌, ◌^◌}
 use mathlib.Core.Path.{◌≡◌, refl, ap}
-use mathlib.Core.Bool.{Bool, ◌&&◌}
-use mathlib.Core.List.{List}
+use mathlib.Core.Bool.{◌&&◌}
 use native.Mathlib.Omega.{arith}
 use mir.Val.{bool_byte}
-use Rattle.seats.specs.Mask.{bit, packed}
+use Rattle.seats.specs.Mask.{packed}
 use Rattle.seats.specs.Marks.{packed_none, packed_step, packed_all}
 use lib.ListN.{get_or}
 use lib.Dec.{eqb}
-use borrow.Author.Rules.{rules}
 use Rattle.votes.proofs.search.at_view.Invariants.{test}
 use Rattle.votes.proofs.search.at_view.Goals as goal
 use Rattle.votes.proofs.search.at_view.Goals.{After-t-1}

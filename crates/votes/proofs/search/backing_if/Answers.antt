@@ -1,6 +1,5 @@
 use mathlib.Core.Path.{ap, ◌∙◌}
 use Rattle.seats.specs.Mask.{seats_in}
-use borrow.Author.Rules.{rules}
 use Rattle.votes.proofs.search.backing_if.Goals as goal
 
 pub returns-then-c : goal.returns-then-c

@@ -1,4 +1,3 @@
-use borrow.Author.Rules.{rules}
 use Rattle.votes.proofs.search.forced_to.Goals as goal
 
 pub returns-then-b : goal.returns-then-b

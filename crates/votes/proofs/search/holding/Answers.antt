@@ -1,15 +1,11 @@
-use Prim.Native.Nat.{ℕ, ◌≤◌, ◌<◌, ◌-◌, ◌+◌, ◌*◌, ◌^◌}
+use Prim.Native.Nat.{◌<◌, ◌-◌, ◌+◌, ◌*◌, ◌^◌}
 use mathlib.Core.Path.{◌≡◌, refl, ap, ap₂, ◌∙◌}
-use mathlib.Core.Bool.{Bool, ◌&&◌}
-use mathlib.Core.List.{List}
+use mathlib.Core.Bool.{◌&&◌}
 use native.Mathlib.Omega.{arith}
 use mir.Val.{bool_byte}
-use Rattle.seats.specs.Mask.{bit, packed}
+use Rattle.seats.specs.Mask.{packed}
 use Rattle.seats.specs.Marks.{packed_none, packed_step, packed_all}
-use Rattle.entry.specs.declared.Entry.{Entry}
 use Rattle.entry.specs.Entry.{same}
-use Rattle.entry.specs.Table.{entry_at}
-use borrow.Author.Rules.{rules}
 use Rattle.votes.proofs.search.holding.Invariants.{test}
 use Rattle.votes.proofs.search.holding.Goals as goal
 use Rattle.votes.proofs.search.holding.Goals.{After-same}

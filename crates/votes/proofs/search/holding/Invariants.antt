@@ -1,15 +1,11 @@
-use Prim.Native.Nat.{ℕ, ◌≤◌, ◌<◌, ◌-◌, ◌+◌, ◌*◌, ◌^◌}
-use mathlib.Core.Path.{◌≡◌, refl, ap, ap₂, ◌∙◌}
+use Prim.Native.Nat.{ℕ, ◌≤◌, ◌-◌}
+use mathlib.Core.Path.{◌≡◌}
 use mathlib.Core.Bool.{Bool, ◌&&◌}
 use mathlib.Core.List.{List}
-use native.Mathlib.Omega.{arith}
-use mir.Val.{bool_byte}
 use Rattle.seats.specs.Mask.{bit, packed}
-use Rattle.seats.specs.Marks.{packed_none, packed_step, packed_all}
 use Rattle.entry.specs.declared.Entry.{Entry}
 use Rattle.entry.specs.Entry.{same}
 use Rattle.entry.specs.Table.{entry_at}
-use borrow.Author.Rules.{rules}
 use Rattle.votes.proofs.search.holding.Given as goal
 
 -- A row of the mask, for an entry.

@@ -5,7 +5,6 @@ use Rattle.base.specs.Tests.{true≢false}
 use Rattle.entry.specs.declared.Entry.{Entry}
 use Rattle.entry.specs.Entry.{less}
 use Rattle.votes.specs.Steps.{lowered}
-use borrow.Author.Rules.{rules}
 use Rattle.votes.proofs.search.lower.Goals as goal
 
 -- The old entry stays where the new one does not pass, or the old one is smaller.
@@ -22,9 +21,9 @@ replaced true true false e o q h = ap (λ b. some (cond b o e)) q
 replaced true false l e o q h = refl
 
 pub returns-then-keep : goal.returns-then-keep
-returns-then-keep c =     let a = c.args in
+returns-then-keep c = let a = c.args in
     kept a.passes a.b.found c.less.result a.e a.b.entry c.less.ensures c.if-keep.true
 
 pub returns-else-keep : goal.returns-else-keep
-returns-else-keep c =     let a = c.args in
+returns-else-keep c = let a = c.args in
     replaced a.passes a.b.found c.less.result a.e a.b.entry c.less.ensures c.if-keep.false

@@ -1,4 +1,4 @@
-use Prim.Native.Nat.{ℕ, ◌≤◌, ◌<◌, ◌-◌, ◌+◌, ◌*◌, ◌^◌}
+use Prim.Native.Nat.{ℕ, ◌<◌, ◌-◌, ◌+◌, ◌*◌, ◌^◌}
 use mathlib.Core.Path.{◌≡◌, refl, ap₂, ◌∙◌}
 use mathlib.Core.Bool.{Bool, ◌&&◌}
 use native.Mathlib.Omega.{arith}
@@ -10,7 +10,6 @@ use Rattle.votes.specs.declared.Vote.{Vote}
 use Rattle.votes.specs.Vote.{valid}
 use Rattle.votes.specs.declared.VoteRows.{VoteRows}
 use Rattle.votes.specs.Rows.{votes_of, table_of, vote_at, has_row}
-use borrow.Author.Rules.{rules}
 use Rattle.votes.proofs.search.present.Goals as goal
 use Rattle.votes.proofs.search.present.Goals.{After-valid_if-t}
 

@@ -1,18 +1,14 @@
-use Prim.Native.Nat.{ℕ, ◌≤◌, ◌-◌}
+use Prim.Native.Nat.{ℕ}
 use mathlib.Core.Path.{◌≡◌, refl, sym, ap, ap₂, ◌∙◌}
 use mathlib.Core.Bool.{Bool, true, false, ◌&&◌, cond}
-use mathlib.Core.List.{List}
 use mathlib.Core.Option.{Option}
 use native.Mathlib.Omega.{arith}
 use lib.Dec.{leb}
 use Rattle.entry.specs.declared.Entry.{Entry}
-use Rattle.entry.specs.Entry.{same}
 use Rattle.entry.specs.Table.{entry_at}
-use Rattle.seats.specs.Mask.{bit, mask, seats_in}
 use Rattle.votes.specs.Selection.{smallest}
 use Rattle.votes.specs.Smallest.{smallest_none, smallest_more}
-use Rattle.votes.specs.Steps.{found, lowered}
-use borrow.Author.Rules.{rules}
+use Rattle.votes.specs.Steps.{lowered}
 use Rattle.votes.proofs.search.smallest_backed.Invariants.{backed, rows_for}
 use Rattle.votes.proofs.search.smallest_backed.Goals as goal
 
@@ -28,7 +24,7 @@ pub loop-i-init : goal.loop-i-init
 loop-i-init c = let a = c.args in (omega arith, sym (smallest_none (backed a.rows a.entries.now a.n a.need) (entry_at a.entries.now)))
 
 pub loop-i-preserved : goal.loop-i-preserved
-loop-i-preserved c =             let l = c.loop-i in
+loop-i-preserved c = let l = c.loop-i in
     let a = c.args in
     let es = a.entries.now in
     let flag : (c.has-there.result && leb a.need c.backing_if-backing.result) ≡ backed a.rows es a.n a.need l.i =

@@ -1,18 +1,14 @@
 use Prim.Native.Nat.{ℕ, ◌≤◌, ◌-◌}
-use mathlib.Core.Path.{◌≡◌, refl, sym, ap, ap₂, ◌∙◌}
-use mathlib.Core.Bool.{Bool, true, false, ◌&&◌, cond}
+use mathlib.Core.Path.{◌≡◌}
+use mathlib.Core.Bool.{Bool, ◌&&◌}
 use mathlib.Core.List.{List}
-use mathlib.Core.Option.{Option}
-use native.Mathlib.Omega.{arith}
 use lib.Dec.{leb}
 use Rattle.entry.specs.declared.Entry.{Entry}
 use Rattle.entry.specs.Entry.{same}
 use Rattle.entry.specs.Table.{entry_at}
 use Rattle.seats.specs.Mask.{bit, mask, seats_in}
 use Rattle.votes.specs.Selection.{smallest}
-use Rattle.votes.specs.Smallest.{smallest_none, smallest_more}
-use Rattle.votes.specs.Steps.{found, lowered}
-use borrow.Author.Rules.{rules}
+use Rattle.votes.specs.Steps.{found}
 use Rattle.votes.proofs.search.smallest_backed.Given as goal
 
 -- How many rows of the mask are for an entry.

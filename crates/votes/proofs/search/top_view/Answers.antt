@@ -1,14 +1,10 @@
-use Prim.Native.Nat.{ℕ, ◌≤◌, ◌-◌}
 use mathlib.Core.Path.{◌≡◌, sym, ap, ap₂, ◌∙◌}
 use mathlib.Core.Bool.{cond}
-use mathlib.Core.List.{List}
 use native.Mathlib.Omega.{arith}
 use lib.ListN.{get_or}
 use Rattle.base.specs.Choosing.{larger}
 use Rattle.seats.specs.Seats.{highest}
 use Rattle.seats.specs.Count.{highest_none, highest_more}
-use Rattle.seats.specs.Mask.{bit}
-use borrow.Author.Rules.{rules}
 use Rattle.votes.proofs.search.top_view.Invariants.{view}
 use Rattle.votes.proofs.search.top_view.Goals as goal
 
@@ -16,7 +12,7 @@ pub loop-i-init : goal.loop-i-init
 loop-i-init c = let a = c.args in (omega arith, sym (highest_none (view a.rows a.views.now)))
 
 pub loop-i-preserved : goal.loop-i-preserved
-loop-i-preserved c =         let l = c.loop-i in
+loop-i-preserved c = let l = c.loop-i in
     let a = c.args in (
       omega arith,
       c.larger-w.ensures

@@ -1,14 +1,10 @@
 use Prim.Native.Nat.{ℕ, ◌≤◌, ◌-◌}
-use mathlib.Core.Path.{◌≡◌, sym, ap, ap₂, ◌∙◌}
+use mathlib.Core.Path.{◌≡◌}
 use mathlib.Core.Bool.{cond}
 use mathlib.Core.List.{List}
-use native.Mathlib.Omega.{arith}
 use lib.ListN.{get_or}
-use Rattle.base.specs.Choosing.{larger}
 use Rattle.seats.specs.Seats.{highest}
-use Rattle.seats.specs.Count.{highest_none, highest_more}
 use Rattle.seats.specs.Mask.{bit}
-use borrow.Author.Rules.{rules}
 use Rattle.votes.proofs.search.top_view.Given as goal
 
 -- The view of a row of the mask, 0 of any other.

@@ -1,15 +1,9 @@
 use Prim.Native.Nat.{ℕ, ◌<◌, ◌-◌}
-use mathlib.Core.Path.{◌≡◌, refl, sym, ap₂, ◌∙◌}
+use mathlib.Core.Path.{◌≡◌}
 use mathlib.Core.Bool.{false}
-use native.Mathlib.Omega.{arith}
 use lib.Dec.{T}
-use Rattle.base.specs.Tests.{is_true, is_false, true_is, true≢false, but_not, not_but}
-use Rattle.entry.specs.Entry.{same}
 use Rattle.entry.specs.Table.{entry_at}
-use Rattle.entry.specs.Laws.{same_eq}
 use Rattle.seats.specs.Mask.{bit}
-use Rattle.votes.proofs.Pairs.{two_yes, two_no, two_one, below_next}
-use borrow.Author.Rules.{rules}
 use Rattle.votes.proofs.search.two_among.Given as goal
 
 abbrev pub invariant-loop-j : goal.invariant-loop-j

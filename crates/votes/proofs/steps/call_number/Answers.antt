@@ -1,6 +1,5 @@
 use mathlib.Core.Path.{sym}
 use Rattle.votes.specs.RowLaws.{call_after_sizes}
-use borrow.Author.Rules.{rules}
 use Rattle.votes.proofs.steps.call_number.Goals as goal
 
 pub returns : goal.returns

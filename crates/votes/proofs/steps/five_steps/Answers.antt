@@ -18,7 +18,6 @@ use Rattle.votes.specs.Selection.{is_at, is_other}
 use Rattle.votes.specs.Rows.{vote_at}
 use Rattle.votes.specs.Steps.{bare_votes, found}
 use Rattle.votes.proofs.Masked.{Counted, Topped, waits_few, frees, first_low, forces, waits_others, settles}
-use borrow.Author.Rules.{rules}
 use Rattle.std.proofs.Common.{not}
 use Rattle.votes.proofs.steps.five_steps.Goals as goal
 use Rattle.votes.proofs.steps.five_steps.Goals.{After-at_view-top, After-two_among, After-without-others, Else-seats_in-quorum, Start}
@@ -80,30 +79,30 @@ others c =
     (these (goal.at.After-without-others c).Start) liar.below liar.at c.without-others.ensures
 
 pub returns-then-seats_in-quorum : goal.returns-then-seats_in-quorum
-returns-then-seats_in-quorum c =         let few : seats_in c.args.rows < c.args.n - c.args.f = omega (arith, c.quorum-quorum.ensures, c.seats_in.ensures, c.if-seats_in-quorum.true) in
+returns-then-seats_in-quorum c = let few : seats_in c.args.rows < c.args.n - c.args.f = omega (arith, c.quorum-quorum.ensures, c.seats_in.ensures, c.if-seats_in-quorum.true) in
     waits_few c.args.n c.args.f (bit c.args.rows) (vote (goal.at.returns-then-seats_in-quorum c).Start) c.requires.1 c.args.rows (bit c.args.rows) (these (goal.at.returns-then-seats_in-quorum c).Start) (λ k t. t) few
 
 pub returns-then-votes-eq0 : goal.returns-then-votes-eq0
 unfolding counted
-returns-then-votes-eq0 c =         frees c.args.n c.args.f (bit c.args.rows) (vote (goal.at.returns-then-votes-eq0 c).Start) c.requires.1 (counted (goal.at.returns-then-votes-eq0 c).Else-seats_in-quorum) c.if-votes-eq0.true
+returns-then-votes-eq0 c = frees c.args.n c.args.f (bit c.args.rows) (vote (goal.at.returns-then-votes-eq0 c).Start) c.requires.1 (counted (goal.at.returns-then-votes-eq0 c).Else-seats_in-quorum) c.if-votes-eq0.true
 
 pub overflow_cast-i : goal.overflow_cast-i
 overflow_cast-i c = omega (arith, low_first (goal.at.overflow_cast-i c).After-two_among)
 
 pub returns-then-not-two_among : goal.returns-then-not-two_among
 unfolding vote_at topped
-returns-then-not-two_among c =             ap Choice.Forced c.entry_at.ensures
+returns-then-not-two_among c = ap Choice.Forced c.entry_at.ensures
     ∙ forces c.args.n c.args.f (bit c.args.rows) (vote (goal.at.returns-then-not-two_among c).Start) c.requires.1 (topped (goal.at.returns-then-not-two_among c).After-at_view-top) c.two_among.result c.two_among.ensures (not-true _ (ap not c.if-not-two_among.true))
 
 pub returns-then-seats_in-quorum-2 : goal.returns-then-seats_in-quorum-2
 unfolding vote_at topped
-returns-then-seats_in-quorum-2 c =                         let few : seats_in c.without-others.result < c.args.n - c.args.f = omega (arith, c.quorum-quorum.ensures, c.seats_in-2.ensures, c.if-seats_in-quorum-2.true) in
+returns-then-seats_in-quorum-2 c = let few : seats_in c.without-others.result < c.args.n - c.args.f = omega (arith, c.quorum-quorum.ensures, c.seats_in-2.ensures, c.if-seats_in-quorum-2.true) in
     waits_others c.args.n c.args.f (bit c.args.rows) (vote (goal.at.returns-then-seats_in-quorum-2 c).Start) c.requires.1 (topped (goal.at.returns-then-seats_in-quorum-2 c).After-at_view-top) c.two_among.result c.two_among.ensures (not-false _ (ap not c.if-not-two_among.false))
     c.without-others.result (others (goal.at.returns-then-seats_in-quorum-2 c).After-without-others) few
 
 pub returns : goal.returns
 unfolding vote_at topped
-returns c =                                     let n = c.args.n in
+returns c = let n = c.args.n in
     let w = c.top_view-w.result in
     let enough : n - c.args.f ≤ seats_in c.without-others.result = omega (arith, c.quorum-quorum.ensures, c.seats_in-2.ensures, c.if-seats_in-quorum-2.false) in
     let liar = liar_marks (goal.at.returns c).After-without-others in

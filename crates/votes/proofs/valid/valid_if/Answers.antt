@@ -1,4 +1,3 @@
-use borrow.Author.Rules.{rules}
 use Rattle.votes.proofs.valid.valid_if.Goals as goal
 
 pub returns-then-c : goal.returns-then-c

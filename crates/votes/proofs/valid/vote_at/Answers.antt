@@ -1,5 +1,4 @@
 use Rattle.votes.specs.Rows.{vote_at}
-use borrow.Author.Rules.{rules}
 use Rattle.votes.proofs.valid.vote_at.Goals as goal
 
 pub returns : goal.returns
