@@ -1,4 +1,5 @@
-/* The library's functions for C. Link target/staticlib/libstation.a, which `rt staticlib station` writes.
+/* The library's functions for C. Link target/staticlib/libstation.a: test.sh makes it of the crate station_c, whose archive `rt lib`
+   writes in crates/station_c as out/libstation_c.a.
 
    A replica is six arrays that the caller keeps and does not read or write by itself:
      scalars       22 words: n, f, seat, stage, decided, view; of its vote cast, verified, view, entry (2 words), mask;

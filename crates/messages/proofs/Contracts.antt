@@ -5,7 +5,7 @@ use Rattle.base.specs.ExactContracts.{Exact, gives, gives_and}
 use Rattle.messages.specs.Reader.{read_line}
 use Rattle.messages.specs.Setup.{read_setup}
 use Rattle.messages.specs.Writer.{afterwards, written}
-use Rattle.messages.proofs as fn
+use Rattle.messages.specs.contracts as fn
 
 module _ (w : World) where
   pub read_line_says : Exact w fn.read.read_line.ended fn.read.read_line.spec (λ κs (line, _). gives (read_line line.now))

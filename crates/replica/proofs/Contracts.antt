@@ -12,7 +12,7 @@ use Rattle.base.specs.Refusal.{first}
 use Rattle.messages.specs.declared.Message.TheVariants.{Start, Enter, Propose, Acknowledge, Cast, Ask, Confirm}
 use Rattle.replica.specs.Refusals.{setup_refusals}
 use Rattle.replica.specs.Steps.{answer_of, ask_with, setup_step, step}
-use Rattle.replica.proofs as fn
+use Rattle.replica.specs.contracts as fn
 
 module _ (w : World) where
   -- ---- the methods with the margin
@@ -35,7 +35,7 @@ module _ (w : World) where
   pub cast_says : Exact w fn.Replica.cast.ended fn.Replica.cast.spec (λ κs (s, (r, _)). gives (answer_of (step s (Cast r) [])))
   cast_says κs a = refl
 
-  -- Over rows that were gathered one by one; `gathered-step` in Methods.antt says that this is `step` too.
+  -- Over rows that were gathered one by one; `gathered_step` in Methods.antt says that this is `step` too.
   pub ask_says : Exact w fn.Replica.ask.ended fn.Replica.ask.spec (λ κs (s, (q, (rows, _))). gives (answer_of (ask_with s q rows)))
   ask_says κs a = refl
 

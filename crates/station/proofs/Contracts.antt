@@ -8,7 +8,7 @@ use Rattle.messages.specs.Writer.{afterwards, lent, written}
 use Rattle.votes.specs.Rows.{number_of}
 use Rattle.station.specs.Calls.{ran_by, selected_by, selected_words, setup_by}
 use Rattle.station.specs.Words.{message_of, replica_of, scalars_of}
-use Rattle.station.proofs as fn
+use Rattle.station.specs.contracts as fn
 
 module _ (w : World) where
   pub luscarembo_setup_says : Exact w fn.calls.luscarembo_setup.ended fn.calls.luscarembo_setup.spec

@@ -1,4 +1,4 @@
-// The exported functions.
+// The functions of the library. C calls them by way of the crate station_c.
 ghost use Rattle.std.specs.Prelude.{◌≡◌, [], ◌∷◌, length};
 ghost use Rattle.votes.specs.Rows.{number_of, gathered};
 ghost use Rattle.messages.specs.Writer.{lent, written, afterwards};
@@ -20,8 +20,7 @@ use transcript::lines::end_of_line;
 use votes::{Choice, Rows, Selected};
 
 // The replica that setup begins, or the blank one; the answer is setup's number.
-#[unsafe(no_mangle)]
-pub extern "C" fn luscarembo_setup(
+pub fn luscarembo_setup(
     n: u8,
     f: u8,
     seat: u8,
@@ -51,9 +50,8 @@ pub extern "C" fn luscarembo_setup(
 
 // The events of a text: its whole lines, a Q with its rows, as `trace` takes them, numbered from 1. What `trace` prints of them
 // goes to the front of `out`, as long as there is room for one more event; the answer is how many bytes that is. The replica that
-// the arrays then hold is the one that `step` makes of these events, one after the other: `events-stepped` in EventLaws.antt.
-#[unsafe(no_mangle)]
-pub extern "C" fn luscarembo_events(
+// the arrays then hold is the one that `step` makes of these events, one after the other: `events_stepped` in EventLaws.antt.
+pub fn luscarembo_events(
     scalars: &mut Scalars,
     ack_entries: &mut Entries,
     ack_views: &mut [u32; 64],
@@ -128,8 +126,7 @@ fn gather(rows: Rows, text: &[u8]) -> Rows
 }
 
 // The selection by itself, over rows given as V lines: its number, and its choice.
-#[unsafe(no_mangle)]
-pub extern "C" fn luscarembo_select(
+pub fn luscarembo_select(
     n: u8,
     f: u8,
     view: u32,
@@ -153,8 +150,7 @@ pub extern "C" fn luscarembo_select(
 }
 
 // The line of a message, by the letter of its kind; the answer is the writer's number, and `length` how long the line is.
-#[unsafe(no_mangle)]
-pub extern "C" fn luscarembo_write(
+pub fn luscarembo_write(
     kind: u8,
     words: &Words,
     buf: &mut [u8],

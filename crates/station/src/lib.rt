@@ -3,4 +3,4 @@
 #![tactic(auto)]
 
 mod words; // words.rt: a replica and a message as words
-pub mod calls; // calls.rt: the exported functions
+pub mod calls; // calls.rt: the functions

@@ -8,7 +8,7 @@ ghost use Rattle.messages.specs.Writer.{lent};
 ghost use Rattle.transcript.specs.Feeding.{fed_of, cut_state, last_text, within};
 ghost use Rattle.trace.specs.Windows.{Inside, in_window, behind_by, ran_in, carried, refilled_to, ReadBehind, BehindFirst};
 
-use std::io::{Read, Write};
+use std::io::{ErrorKind, Read, Write};
 use transcript::State;
 use transcript::begin::{begin, put_refusal};
 use transcript::feed::{Fed, feed};
@@ -128,16 +128,17 @@ fn read_first(input: &mut impl Read, errors: &mut impl Write, buf: &mut [u8]) ->
     Window { at: 0, end: end }
 }
 
-// False when it cannot be written.
+// False when it cannot be written. Of a pipe that nobody reads any more nothing is said.
 fn write_front(output: &mut impl Write, errors: &mut impl Write, out: &[u8], put: usize) -> bool {
     let n = least(put, out.len());
-    let written = output.write_all(&out[..n]).is_ok();
-    complain_if(
-        errors,
-        !written,
-        b"trace: standard output cannot be written\n",
-    );
-    written
+    match output.write_all(&out[..n]) {
+        Ok(()) => true,
+        Err(e) => {
+            let lost = e.kind() != ErrorKind::BrokenPipe;
+            complain_if(errors, lost, b"trace: standard output cannot be written\n");
+            false
+        }
+    }
 }
 
 fn feed_window(state: State, buf: &[u8], w: Window, out: &mut [u8]) -> Fed

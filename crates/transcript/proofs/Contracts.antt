@@ -8,7 +8,7 @@ use Rattle.transcript.specs.Feeding.{begun_by, cut_state, fed_of, last_text, ran
 use Rattle.transcript.specs.LineEnds.{behind_line}
 use Rattle.transcript.specs.Texts.{lines_of}
 use Rattle.transcript.specs.Transcript.{bad_setup}
-use Rattle.transcript.proofs as fn
+use Rattle.transcript.specs.contracts as fn
 
 module _ (w : World) where
   pub replica_says : Exact w fn.State.replica.ended fn.State.replica.spec (λ κs (state, _). gives state.replica)

@@ -1,0 +1,20 @@
+use Rattle.text.specs.Digits.{letter_of}
+use Rattle.messages.proofs.Reading.{found, found_end, found_le}
+use Prim.Native.Nat.{ℕ}
+use mathlib.Core.Path.{ap, ap₂, ◌∙◌}
+use native.Mathlib.Omega.{arith}
+use Rattle.messages.proofs.read.letter_at.Goals as goal
+
+pub overflow_add-result : goal.overflow_add-result
+overflow_add-result c = let a = c.args in
+    let p = c.place_behind-p in
+    let f = c.field-f in
+    omega (arith, found_le a.t.now a.end p.result f.result.now p.ensures f.ensures)
+
+pub returns : goal.returns
+returns c = let a = c.args in
+    let p = c.place_behind-p in
+    let f = c.field-f in
+    let is = found a.t.now a.end p.result f.result.now p.ensures f.ensures in
+    let ends = found_end a.t.now a.end p.result f.result.now p.ensures f.ensures in
+    ap₂ (λ (x k : ℕ). record { letter = x; end = k }) (c.letter.ensures ∙ ap letter_of is) ends

@@ -1,0 +1,11 @@
+use Rattle.replica.proofs.numbers.acknowledge_number.Goals as goal
+
+pub returns : goal.returns
+returns c =
+    simp (
+      c.head_number.ensures,
+      c.pick-2.ensures,
+      c.well_formed-2.ensures,
+      c.pick-behind.ensures,
+      c.pick.ensures,
+    )

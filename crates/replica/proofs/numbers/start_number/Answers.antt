@@ -1,0 +1,10 @@
+use Rattle.replica.proofs.numbers.start_number.Goals as goal
+
+pub returns : goal.returns
+returns c =
+    simp (
+      c.pick-3.ensures,
+      c.pick-2.ensures,
+      c.pick.ensures,
+      c.leads.ensures,
+    )

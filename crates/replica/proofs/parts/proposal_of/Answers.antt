@@ -1,0 +1,4 @@
+use Rattle.replica.proofs.parts.proposal_of.Goals as goal
+
+pub returns : goal.returns
+returns c = simp c.head_of.ensures

@@ -1,0 +1,40 @@
+use Prim.Native.Nat.{◌<◌, ◌-◌, ◌+◌, ◌*◌, ◌^◌}
+use mathlib.Core.Path.{◌≡◌, refl, ap, ap₂, ◌∙◌}
+use mathlib.Core.Bool.{◌&&◌}
+use native.Mathlib.Omega.{arith}
+use mir.Val.{bool_byte}
+use Rattle.seats.specs.Mask.{packed}
+use Rattle.seats.specs.Marks.{packed_none, packed_step, packed_all}
+use Rattle.entry.specs.Entry.{same}
+use Rattle.votes.proofs.search.holding.Invariants.{test}
+use Rattle.votes.proofs.search.holding.Goals as goal
+use Rattle.votes.proofs.search.holding.Goals.{After-same}
+
+pub loop-i-init : goal.loop-i-init
+loop-i-init c = let a = c.args in
+    (omega arith, packed_none (test a.rows a.entries.now a.e) a.n a.n refl)
+
+-- One seat more, and it fits.
+next : (c : After-same) →
+    let l = c.loop-i in
+    let a = c.args in
+    (2 * l.m + bool_byte (c.has.result && c.same.result) ≡ packed (test a.rows a.entries.now a.e) (l.i - 1) (a.n - (l.i - 1))) × (2 * l.m + bool_byte (c.has.result && c.same.result) < 2 ^ 64)
+next c =
+    let l = c.loop-i in
+    let a = c.args in
+    packed_step (test a.rows a.entries.now a.e) a.n l.i l.m c.loop-i-test.true l.invariant.0 c.requires l.invariant.1 (c.has.result && c.same.result)
+    (ap₂ ◌&&◌ c.has.ensures (c.same.ensures ∙ ap (λ x. same x a.e) c.entry_at-x.ensures))
+
+pub overflow_mul-m : goal.overflow_mul-m
+overflow_mul-m c = omega (arith, (next (goal.at.overflow_mul-m c).After-same).1)
+
+pub overflow_add-m : goal.overflow_add-m
+overflow_add-m c = omega (arith, (next (goal.at.overflow_add-m c).After-same).1)
+
+pub loop-i-preserved : goal.loop-i-preserved
+loop-i-preserved c = (omega arith, (next (goal.at.loop-i-preserved c).After-same).0)
+
+pub returns : goal.returns
+returns c = let l = c.loop-i in
+    let a = c.args in
+    packed_all (test a.rows a.entries.now a.e) a.n l.i l.m c.loop-i-test.false l.invariant.1
