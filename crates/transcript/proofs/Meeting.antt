@@ -5,10 +5,9 @@ use mathlib.Core.Bool.{true, false, cond}
 use mathlib.Core.List.{List, [], ◌∷◌}
 use lib.Dec.{eqb}
 use lib.IntN.{ℤ}
-use types.Run.{OneOf, miss}
-use denote.Enum.Declared.{tag_of}
 use borrow.Author.Tests.{eq-eqb, ne_eqb}
 use Rattle.acks.specs.Acks.{row_of, margin}
+use Rattle.votes.specs.declared.Row.{Row}
 use Rattle.votes.specs.declared.Rows.{Rows}
 use Rattle.messages.specs.declared.Assent.{Assent}
 use Rattle.messages.specs.declared.Message.{Message}
@@ -23,15 +22,7 @@ use Rattle.transcript.specs.declared.sort.Event.{Event}
 use Rattle.transcript.specs.Printed.{sends_ask, SentWritable}
 use Rattle.transcript.specs.SentLaws.{sent_writable, ask_small}
 use Rattle.transcript.specs.Feeding.{request_after, rows_after, heard, step_after, is_acknowledge, counts, margin_after}
-use Rattle.transcript.specs.contracts.sort.Event.{the_type}
 use Rattle.transcript.proofs.Deciding.{heard_undecided, ask_undecided, acknowledge_silent}
-
--- Events are numbered as the type has them: 0 is no message, 1 a message, 2 a row, 3 a request.
-abbrev alone : List ℕ
-alone = 0 ∷ 1 ∷ []
-
-abbrev asked : List ℕ
-asked = 2 ∷ 3 ∷ []
 
 -- ---- the request that waits
 
@@ -52,14 +43,14 @@ module _ {e : Event} {s : Replica} {q : Request} {rows : Rows} {event : Event} {
   }
 
   -- Any other line.
-  pub alone_taken : OneOf alone (tag_of the_type e) → event ≡ e → request ≡ q → rows' ≡ rows → Taken e s q rows event request rows'
-  alone_taken h same a b = go e h same
+  pub alone_taken : ((r : Row) → e ≡ Event.Row r → ⊥) → ((x : Request) → e ≡ Event.Opened x → ⊥) → event ≡ e → request ≡ q → rows' ≡ rows → Taken e s q rows event request rows'
+  alone_taken h k same a b = go e h k same
     where
-      go : (x : Event) → OneOf alone (tag_of the_type x) → event ≡ x → Taken x s q rows event request rows'
-      go Event.Unread h same = record { same = same; opened = a; gathered = b }
-      go (Event.Heard m) h same = record { same = same; opened = a; gathered = b }
-      go (Event.Row r) h same = absurd (miss alone 2 tt h)
-      go (Event.Opened x) h same = absurd (miss alone 3 tt h)
+      go : (x : Event) → ((r : Row) → x ≡ Event.Row r → ⊥) → ((y : Request) → x ≡ Event.Opened y → ⊥) → event ≡ x → Taken x s q rows event request rows'
+      go Event.Unread h k same = record { same = same; opened = a; gathered = b }
+      go (Event.Heard m) h k same = record { same = same; opened = a; gathered = b }
+      go (Event.Row r) h k same = absurd (h r refl)
+      go (Event.Opened x) h k same = absurd (k x refl)
 
 -- ---- the step
 
@@ -98,18 +89,18 @@ module _ {e : Event} {s : Replica} {q : Request} {rows : Rows} {was : ℤ} {repl
       stores (is ∙ ap Event.Heard kind) step a k b c none
 
   -- The last row of a request, or a request without rows.
-  pub asked_made : {r : Step} → OneOf asked (tag_of the_type e) → r ≡ ask_with s q rows → replica ≡ r.next → m ≡ was → number ≡ r.number
+  pub asked_made : {r : Step} → (e ≡ Event.Unread → ⊥) → ((x : Message) → e ≡ Event.Heard x → ⊥) → r ≡ ask_with s q rows → replica ≡ r.next → m ≡ was → number ≡ r.number
       → decided ≡ Decided.Nothing → sent ≡ r.sent → Made e s q rows was (step_of number replica decided sent) m
-  asked_made {r} h step a k b c d = go e refl h
+  asked_made {r} h l step a k b c d = go e refl
     where
       none : decided ≡ r.decided
       none = c ∙ sym (ap (λ (t : Step). t.decided) step ∙ ask_undecided s q rows)
 
-      go : (x : Event) → e ≡ x → OneOf asked (tag_of the_type x) → Made e s q rows was (step_of number replica decided sent) m
-      go Event.Unread is h = absurd (miss asked 0 tt h)
-      go (Event.Heard x) is h = absurd (miss asked 1 tt h)
-      go (Event.Row x) is h = stores is step a k b none d
-      go (Event.Opened x) is h = stores is step a k b none d
+      go : (x : Event) → e ≡ x → Made e s q rows was (step_of number replica decided sent) m
+      go Event.Unread is = absurd (h is)
+      go (Event.Heard x) is = absurd (l x is)
+      go (Event.Row x) is = stores is step a k b none d
+      go (Event.Opened x) is = stores is step a k b none d
 
 -- The margin of an A is counted again where it is taken.
 abbrev counting : Step → ℤ → ℤ

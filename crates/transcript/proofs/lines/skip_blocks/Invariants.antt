@@ -1,0 +1,14 @@
+use Prim.Native.Nat.{◌-◌, ◌≤◌}
+use mathlib.Core.Path.{◌≡◌, refl, sym, ◌∙◌}
+use native.Mathlib.Omega.{arith}
+use lib.ListN.{length}
+use Rattle.transcript.specs.TextLaws.{line_passes}
+use Rattle.transcript.specs.LineEnds.{behind_line}
+use borrow.Author.Rules.{rules}
+use Rattle.transcript.proofs.lines.skip_blocks.Given as goal
+
+abbrev pub invariant-loop-i : goal.invariant-loop-i
+invariant-loop-i l = (behind_line l.s l.i ≡ behind_line l.s l.from) × (l.i ≤ length l.s)
+
+abbrev pub decreases-loop-i : goal.decreases-loop-i
+decreases-loop-i l = length l.s - l.i

@@ -1,0 +1,6 @@
+use mathlib.Core.Path.{sym, ◌∙◌}
+use borrow.Author.Rules.{rules}
+use Rattle.transcript.proofs.sort.read_unless.Goals as goal
+
+pub returns : goal.returns
+returns c = c.read_line.ensures ∙ sym (simp c.if-cut.false)
