@@ -107,11 +107,12 @@ function respell(b,    list, path, text, line, words, n, k) {
     close(list)
 }
 
-# `word` stands in a name between dashes and the ends of the name.
-function respelled(text, word, by,    out, at, after) {
+# `word` stands in a name behind a dash, or begins it where it has a dash itself, and ends before a dash or with the name.
+function respelled(text, word, by,    out, at, before, after) {
     while ((at = index(text, word)) > 0) {
+        before = at > 1 ? substr(text, at - 1, 1) : substr(out, length(out))
         after = substr(text, at + length(word), 1)
-        out = out substr(text, 1, at - 1) (substr(text, at - 1, 1) == "-" && after !~ /[A-Za-z0-9_]/ ? by : word)
+        out = out substr(text, 1, at - 1) ((before == "-" || word ~ /-/ && before !~ /[A-Za-z0-9_]/) && after !~ /[A-Za-z0-9_]/ ? by : word)
         text = substr(text, at + length(word))
     }
     return out text
