@@ -1,11 +1,13 @@
 # Breaks the functions of one crate in a copy of it, as its broken.txt says, and has the prover refuse each of them by name.
-# tools/broken.sh makes the copy and calls this, with the crate's name, its folder (from), its copy's (to), and where what the prover
-# says is kept (log_at).
+# tools/broken.sh calls this, with the crate's name, its folder (from), its copy's (to), the words that ask the prover (ask), and where what
+# it says is kept (log_at).
 #
 # A block of broken.txt is a line `fn: ` with the function as the prover names it, perhaps a line `name: `, then `file: `, `old: ` and
-# `new: `: the first `old` behind the function's head becomes `new`. A function is judged where all it calls is proved: so the prover
-# is asked again, without those that it has refused, until none is left. It must miss a fact, not a step: a change that makes the proof
-# speak of steps that are no longer there is refused whatever it means, and needs a line `shape: ` that says why.
+# `new: `: the first `old` behind the function's head becomes `new`. The prover is asked again, without those that it has judged, until none
+# is left: where a function calls one that is broken too, some of its goals wait for that one. It must miss a fact, not a name: the goals of
+# a function have names from its code, as `returns-then-x-lt48` from `if x < 48`. Where a change renames some, a line `goals: ` has the words
+# of names before and after, as `x-lt48 x-lt49`, and what stands in proofs/ of the function is read with the new ones. A change that makes the
+# proof speak of steps that are no longer there is refused whatever it means, and needs a line `shape: ` that says why.
 # Every function that the prover names has a block. In a program those that read or write may have a line `open: `, the function, a
 # colon and why, instead.
 
@@ -15,6 +17,7 @@
 /^file: / { file[blocks] = substr($0, 7) }
 /^old: / { old[blocks] = substr($0, 6) }
 /^new: / { new[blocks] = substr($0, 6) }
+/^goals: / { renamed[blocks] = renamed[blocks] " " substr($0, 8) }
 /^shape: / { shape[blocks] = substr($0, 8) }
 
 END {
@@ -24,7 +27,7 @@ END {
     while (left > 0) {
         round += 1
         tried = break_some()
-        ask()
+        prove()
         judged = judge()
         if (judged == 0) stop("the prover says nothing of the functions that are left; see " log_of())
         left -= judged
@@ -59,7 +62,7 @@ function log_of() {
 
 # One open block of each function is applied to a copy of the sources as they are.
 function break_some(    b, seen, many) {
-    system("cp -R '" from "/src' '" to "'")
+    system("rm -rf '" to "' && mkdir '" to "' && cd '" from "' && cp -R src specs proofs '" to "'")
     for (b = 1; b <= blocks; b += 1) {
         applied[b] = 0
         if (open[b] && !((of[b]) in seen)) {
@@ -85,6 +88,33 @@ function change(b,    path, text, line, at, head, parts, n) {
     head = substr(text, 1, at - length(old[b]) - 1)
     printf "%s%s%s", head, new[b], substr(text, at) > path
     close(path)
+    if (renamed[b] != "") respell(b)
+}
+
+# In what stands in proofs/ of the function, the names of its goals.
+function respell(b,    list, path, text, line, words, n, k) {
+    n = split(renamed[b], words, " ")
+    if (n % 2) stop(of[b] name[b] ": goals: words before and after, in pairs")
+    list = "ls '" to proof_of(of[b]) "'*.antt 2>/dev/null"
+    while ((list | getline path) > 0) {
+        text = ""
+        while ((getline line < path) > 0) text = text line "\n"
+        close(path)
+        for (k = 1; k < n; k += 2) text = respelled(text, words[k], words[k + 1])
+        printf "%s", text > path
+        close(path)
+    }
+    close(list)
+}
+
+# `word` stands in a name between dashes and the ends of the name.
+function respelled(text, word, by,    out, at, after) {
+    while ((at = index(text, word)) > 0) {
+        after = substr(text, at + length(word), 1)
+        out = out substr(text, 1, at - 1) (substr(text, at - 1, 1) == "-" && after !~ /[A-Za-z0-9_]/ ? by : word)
+        text = substr(text, at + length(word))
+    }
+    return out text
 }
 
 # The place behind the first `what` from `at` on.
@@ -94,8 +124,8 @@ function behind(text, at, what, b,    found) {
     return at + found - 1 + length(what)
 }
 
-function ask() {
-    system("cd '" to "/../..' && RT_CUT=0 rt dev " crate " > '" log_of() "' 2>&1")
+function prove() {
+    system(ask " > '" log_of() "' 2>&1")
 }
 
 # Where the prover's errors of a function's own proof are.
@@ -106,31 +136,44 @@ function proof_of(f,    parts, n, i, path) {
     return path "/"
 }
 
-# How many blocks this round settled.
-function judge(    line, path, said, steps, b, many, f, at) {
+# How many blocks this round settled. A function is refused where `search` misses a goal of its own, as notes before its line say or the line
+# itself, or where what stands of it in proofs/ has an error. One whose goals wait for a callee, and that has none of these, is not judged.
+function judge(    line, path, said, missed, noted, errors, steps, b, many, f, at, refused) {
     path = log_of()
     while ((getline line < path) > 0) {
+        if (line ~ /^note: src\/[^ ]*: it is not proved that /) noted = 1
+        if (line ~ /^struct |^enum /) noted = 0
         if (line ~ /^fn /) {
             f = substr(line, 4, index(line, ": ") - 4)
             said[f] = substr(line, index(line, ": ") + 2)
+            missed[f] = noted || said[f] ~ /did not prove|^could not tell/
+            noted = 0
             found[f] = 1
         }
-        if (line ~ /^[^ ].*: error: /) at = substr(line, 1, index(line, ": error: "))
-        if (line ~ /has no field `|that can be named from here/) steps[at] = 1
+        if (line ~ /^[^ ].*: (error|note|warning): /) at = ""
+        if (line ~ /^[^ ].*: error: /) {
+            at = substr(line, 1, index(line, ": error: "))
+            errors[at] = 1
+        }
+        if (at != "" && line ~ /has no field `|that can be named from here|is not in scope|was not admitted/) steps[at] = 1
     }
     close(path)
     for (b = 1; b <= blocks; b += 1) {
-        if (!applied[b] || !(of[b] in said) || said[of[b]] ~ /it calls/) continue
+        if (!applied[b] || !(of[b] in said)) continue
+        f = of[b]
+        refused = missed[f] || stands_in(proof_of(f), errors)
+        if (said[f] ~ /it calls/ && !refused) continue
         open[b] = 0
         many += 1
-        if (said[of[b]] !~ /^(not proved|no proof)/) complain(b, "NOT REFUSED", said[of[b]])
-        else if (shape[b] == "" && misses_steps(proof_of(of[b]), steps)) complain(b, "REFUSED FOR ITS SHAPE", "see " path)
+        if (said[f] !~ /^(not proved|no proof|could not tell)/) complain(b, "NOT REFUSED", said[f])
+        else if (shape[b] == "" && stands_in(proof_of(f), steps)) complain(b, "REFUSED FOR ITS SHAPE", "see " path)
+        else if (!refused) complain(b, "REFUSED FOR NO REASON", "see " path)
     }
     return many
 }
 
-function misses_steps(path, steps,    at) {
-    for (at in steps) if (index(at, path)) return 1
+function stands_in(path, places,    at) {
+    for (at in places) if (index(at, path)) return 1
     return 0
 }
 

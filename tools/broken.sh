@@ -6,16 +6,15 @@ set -u
 cd "$(dirname "$0")/.." || exit 2
 copies=$(mktemp -d) || exit 2
 trap 'rm -rf "$copies"' EXIT
+mkdir -p target/log
 
-# One crate, in a copy of its own: the prover looks at the crates below it too.
+# One crate, in a copy of its own.
 one() {
     began=$(date +%s)
     copy=$copies/$1
-    mkdir -p "$copy/target"
-    cp -R crates crates.txt "$copy"
-    for part in stamp log; do cp -R "target/$part" "$copy/target"; done
-    ln -s "$PWD/target/rlib" "$copy/target"
-    awk -v crate="$1" -v from="$PWD/crates/$1" -v to="$copy/crates/$1" -v log_at="$PWD/target/log/broken.$1" -f tools/broken.awk "crates/$1/broken.txt" >"$copies/$1.out" 2>&1
+    mkdir -p "$copy"
+    awk -v crate="$1" -v from="$PWD/crates/$1" -v to="$copy/$1" -v log_at="$PWD/target/log/broken.$1" \
+        -v ask="bash tools/prover.sh $1 '$copy/$1' '$copy/kept'" -f tools/broken.awk "crates/$1/broken.txt" >"$copies/$1.out" 2>&1
     status=$?
     sed "s/ refused\$/& ($(($(date +%s) - began)) s)/" "$copies/$1.out"
     rm -rf "$copy"
@@ -28,11 +27,8 @@ for crate in "$@"; do
     grep -qs '^fn: ' "crates/$crate/broken.txt" || { echo "$crate: there is no block in crates/$crate/broken.txt"; failed=1; }
 done
 [ "$failed" -eq 0 ] || exit 1
-# Those whose proof took longest are begun first, so that none of them is left alone at the end.
-seconds() {
-    sed -n 's/^rt: .* proved (\([0-9]*\) s)$/\1/p' "target/log/$1.out"
-}
-set -- $(for crate in "$@"; do echo "$(seconds "$crate") $crate"; done | sort -rn | sed 's/.* //')
+# Those with the most blocks are begun first, so that none of them is left alone at the end.
+set -- $(for crate in "$@"; do echo "$(grep -c '^fn: ' "crates/$crate/broken.txt") $crate"; done | sort -rn | sed 's/.* //')
 started=
 for crate in "$@"; do
     while [ "$(jobs -pr | wc -l)" -ge "${RT_JOBS:-$(nproc)}" ]; do sleep 1; done

@@ -12,7 +12,7 @@ function wrong(why) {
 
 # The names that give a statement its meaning come from where they should, and from nowhere else.
 function imported(line,    names, own) {
-    own = "Rattle·" crate "·proofs.proofs as fn"
+    own = "Rattle." crate ".specs.contracts as fn"
     names = line
     gsub(/[{},]/, " ", names)
     names = names " "
@@ -20,8 +20,8 @@ function imported(line,    names, own) {
     else if (line ~ / as /) wrong("brings in a module under another name: " line)
     if (names ~ / World /) { if (line ~ /^use borrow\.Fn\.World\./) world += 1; else wrong("World is not the kit's: " line) }
     if (names ~ / Exact /) { if (line ~ laws) exact += 1; else wrong("Exact is not that of base: " line) }
-    if (names ~ / (gives|givesAnd|shows|becomes|value) / && line !~ laws) wrong("an answer is not said in the words of base: " line)
-    if (names ~ / refl / && line !~ /^use mathlib\.Core\.Path\./) wrong("refl is not the kit's: " line)
+    if (names ~ / (gives|gives_and|shows|becomes|value|part|nothing) / && line !~ laws) wrong("an answer is not said in the words of base: " line)
+    if (names ~ / refl / && line !~ /^use (mathlib\.Core\.Path|Rattle\.std\.specs\.Prelude)\./) wrong("refl is not the kit's: " line)
 }
 
 function statement(line,    words, path) {
@@ -57,7 +57,7 @@ function stated(line) {
     if (line ~ /\{-|-\}/) wrong("cannot be read: " line)
     if (line ~ /^use [^ ]+(\.\{[^{}]*\}| as fn)$/) imported(line)
     else if (line == "module _ (w : World) where") opened += 1
-    else if (line ~ /^  pub [a-z0-9-]+-says : Exact w fn\./) statement(line)
+    else if (line ~ /^  pub [a-z0-9_]+_says : Exact w fn\./) statement(line)
     else if (line ~ /^      [^ ]/ && proof != "") whole = whole substr(line, 6)
     else if (line == proof) {
         if (index(whole " ", said_of) != 1 || !one_term(substr(whole, length(said_of) + 1))) wrong("says more than an answer: " whole)
@@ -148,7 +148,7 @@ function function_named(name,    words, type, d) {
 # ---- both together
 
 BEGIN {
-    laws = crate == "base" ? "^use Rattle·base·specs\\.specs\\.Contracts\\." : "^use Rattle·base\\.specs\\.Contracts\\."
+    laws = "^use Rattle\\.base\\.specs\\.ExactContracts\\."
 }
 
 FILENAME ~ /\.antt$/ { stated($0); next }

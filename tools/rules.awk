@@ -113,6 +113,7 @@ function prove(    line, at, path, said, name) {
         if (line ~ /^logic=/) verdict = line
         if (line ~ /^status=/) status = substr(line, 8)
         if (line !~ /^error: |^[^ ].*: error: /) continue
+        if (line ~ /: error: [0-9]+ declarations? that depends? on `.*, (was|were) not checked: /) { fallen(line); continue }
         at = index(line, "error: ")
         path = substr(line, 1, at - 1)
         said = substr(line, at + 7)
@@ -130,6 +131,14 @@ function prove(    line, at, path, said, name) {
         if (fact_fails(said)) own[path " " name] = 1
     }
     close(log_at)
+}
+
+# What the prover did not look at, since it cites what is not proved. It names a few, and how they came to cite it.
+function fallen(line,    names, n, i) {
+    sub(/^.* not checked: /, "", line)
+    gsub(/ \(via [^)]*\)/, "", line)
+    n = split(line, names, /, | and /)
+    for (i = 1; i <= n; i += 1) unproved[names[i]] = 1
 }
 
 # A fact is missed, in the prover's words: two types, sides or indices differ, or nothing proves it. Anything else, as a name that is not known or a
@@ -154,7 +163,7 @@ function judge(b,    n, names, i) {
         if (!(law[b, i] in own)) wrong("REFUSED ELSEWHERE", "there is no error of its own in " law[b, i] "; the first is " substr(first, 1, 300))
     n = split(falls[b], names, " ")
     for (i = 1; i <= n; i += 1)
-        if (!(names[i] in unproved)) wrong("REFUSED ELSEWHERE", names[i] " is proved as before")
+        if (!(names[i] in unproved || "falls_" names[i] in unproved)) wrong("REFUSED ELSEWHERE", names[i] " is proved as before")
     exit 0
 }
 

@@ -13,8 +13,18 @@ mkdir -p target/log
 # begins with a letter, and goes on until the next one does. Of what is used, types and constants have a capital letter.
 types_of() {
     awk '
-        /^[a-z#\/]/ { keep = /^(pub(\([a-z]*\))? )?(mod|struct|enum|const|type) / || /^use .*[: ][A-Z][A-Za-z0-9_]*;$/ }
-        keep' "$1"
+        /^[a-z#\/]/ { keep = /^(pub(\([a-z]*\))? )?(mod|struct|enum|const|type) /; used = /^use /; named = "" }
+        used { named = named " " $0 }
+        used && /;$/ { used = 0; brought(named) }
+        keep
+        function brought(line,    names, n, i, types) {
+            sub(/^ /, "", line)
+            sub(/;$/, "", line)
+            if (line !~ /\{/) { if (line ~ /::[A-Z][A-Za-z0-9_]*$/) print line ";"; return }
+            n = split(substr(line, index(line, "{") + 1), names, /[ ,}]+/)
+            for (i = 1; i <= n; i += 1) if (names[i] ~ /^[A-Z]/) types = types (types == "" ? "" : ", ") names[i]
+            if (types != "") print substr(line, 1, index(line, "{")) types "};"
+        }' "$1"
 }
 
 # A crate's types and specs, in a folder of its own name: the prover names the crate after it.
@@ -25,14 +35,20 @@ bare() { # NAME COPY
         mkdir -p "$2/$(dirname "$file")"
         types_of "crates/$1/$file" >"$2/$file"
     done
+    number=0
+    for law in $(sed -n 's/^falls: //p' "crates/$1/rules.txt" | tr ' ' '\n' | sort -u); do
+        for file in $(grep -rlE "^ *(pub )?$law : " "$2/specs"); do witness "$1" "$2" "$law" "$file"; done
+    done
 }
 
-# The crates that it stands on, as words for the prover.
-words_of() { # NAME
-    for below in $(sed -n "s/^$1: *//p" crates.txt); do
-        printf " --extern %s='%s'" "$below" "$PWD/target/rlib/$below.rlib"
-    done
-    printf " -L dependency='%s'" "$PWD/target/rlib"
+# A file of its own that cites the law: where a law falls the prover names only a few of those that cite it, but one of each file.
+witness() { # NAME COPY LAW FILE
+    number=$((number + 1))
+    sed -i "s/^\( *\)$3 : /\1pub $3 : /" "$4"
+    module=${4#"$2/specs/"}
+    module=${module%.antt}
+    printf 'use Rattle.%s.specs.%s.{%s}\n\nfalls_%s : Unit {0}\nfalls_%s = search %s\n' "$1" "${module//\//.}" "$3" "$3" "$3" "$3" >"$2/specs/Falls$number.antt"
+    printf '\npub mod Falls%s\n' "$number" >>"$2/specs/Lib.antt"
 }
 
 # One block, or the crate unchanged, in a copy of its own. What the prover checked of the crate unchanged is kept for this run: beside an edit
@@ -40,10 +56,11 @@ words_of() { # NAME
 one() { # NAME [BLOCK]
     label=$1.${2:-unchanged}
     bare "$1" "$copies/$label/$1"
-    [ $# -eq 1 ] || cp -R "$copies/$1.unchanged/kept" "$copies/$label"
+    from=
+    [ $# -eq 1 ] || from=$copies/$1.unchanged/kept
     began=$(date +%s)
     awk -v crate="$1" -v edit="${2:-}" -v copy="$copies/$label/$1" -v log_at="$PWD/target/log/rules.$label.log" \
-        -v ask="rt check '$copies/$label/$1'$(words_of "$1") --incremental '$copies/$label/kept'" -f tools/rules.awk "crates/$1/rules.txt"
+        -v ask="bash tools/prover.sh $1 '$copies/$label/$1' '$copies/$label/kept' $from" -f tools/rules.awk "crates/$1/rules.txt"
     echo "$1 ${2:-unchanged} $? $(($(date +%s) - began))" >>"$copies/done"
     [ $# -eq 1 ] || rm -rf "${copies:?}/$label"
 }
@@ -68,7 +85,9 @@ over() {
 [ $# -gt 0 ] || set -- $(bash tools/listed.sh libraries)
 for crate in "$@"; do
     grep -qs '^name: ' "crates/$crate/rules.txt" || { echo "$crate: there is no rule in crates/$crate/rules.txt"; exit 2; }
-    [ -e "target/rlib/$crate.rlib" ] || { echo "rules.sh: $crate is not proved: run rt check $crate first"; exit 2; }
+    for below in $(sed -n "s/^$crate: *//p" crates.txt); do
+        [ -d "crates/$below/out/rlib/$below.rlib" ] || { echo "rules.sh: $below is not built: run rt ci or rt all check first"; exit 2; }
+    done
 done
 
 # First with no rule changed: what is left of a crate must be proved.
