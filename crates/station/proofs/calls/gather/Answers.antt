@@ -1,10 +1,8 @@
-use Prim.Native.Nat.{◌-◌}
 use native.Mathlib.Omega.{arith}
 use mathlib.Core.Path.{refl, sym, ap, ◌∙◌}
-use lib.ListN.{length}
 use Rattle.messages.specs.declared.read.Line.TheVariants.{Read, Malformed}
 use Rattle.transcript.specs.TextLaws.{LineAt}
-use Rattle.station.proofs.Gathering.{Gathering, begun, over, found, more, ended, other_row}
+use Rattle.station.proofs.Gathering.{begun, over, found, more, ended, other_row}
 use borrow.Author.Rules.{rules}
 use Rattle.station.proofs.calls.gather.Goals as goal
 use Rattle.station.proofs.calls.gather.Goals.{In-loop-end}
@@ -27,12 +25,12 @@ slice_bounds-read_line-end c = let l = at_line (goal.at.slice_bounds-read_line-e
 
 pub returns-in-Malformed : goal.returns-in-Malformed
 returns-in-Malformed c =
-    ended _ _ _ _ _ c.loop-end.invariant c.loop-end-test.true Malformed (sym c.read_line-l.ensures ∙ c.enum_told-1.given.1) refl
+    ended _ _ _ _ _ c.loop-end.invariant c.loop-end-test.true Malformed (sym c.read_line-l.ensures ∙ c.in-Malformed.is) refl
 
 pub returns-in_default : goal.returns-in_default
 returns-in_default c =
-    ended _ _ _ _ _ c.loop-end.invariant c.loop-end-test.true _ (sym c.read_line-l.ensures ∙ c.l-1.given.1)
-    (other_row c.l-1.given.0.0 _ c.in-Cast.keys2)
+    ended _ _ _ _ _ c.loop-end.invariant c.loop-end-test.true _ (sym c.read_line-l.ensures ∙ c.in-Read.is)
+    (other_row c.in-Read.m _ c.in_default.not-Cast)
 
 pub loop-end-smaller : goal.loop-end-smaller
 loop-end-smaller c =
@@ -40,8 +38,8 @@ loop-end-smaller c =
 
 pub loop-end-preserved : goal.loop-end-preserved
 loop-end-preserved c =
-    more _ _ _ _ _ c.loop-end.invariant c.loop-end-test.true _ c.m-1.given.0.0 _ c.add-t.ensures
-    (sym c.read_line-l.ensures ∙ c.l-1.given.1 ∙ ap Read c.m-1.given.1) c.end_of_line-end-in-loop-end.ensures
+    more _ _ _ _ _ c.loop-end.invariant c.loop-end-test.true _ c.in-Cast.r _ c.add-t.ensures
+    (sym c.read_line-l.ensures ∙ c.in-Read.is ∙ ap Read c.in-Cast.is) c.end_of_line-end-in-loop-end.ensures
 
 pub returns : goal.returns
 returns c = over _ _ _ _ _ c.loop-end.invariant c.loop-end-test.false

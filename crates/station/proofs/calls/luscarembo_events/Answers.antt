@@ -9,13 +9,12 @@ use Rattle.transcript.specs.Texts.{lines_of}
 use Rattle.transcript.specs.Feeding.{Ran, resumed, ran, fed_of}
 use Rattle.station.specs.Words.{replica_of}
 use Rattle.station.proofs.Kept.{kept}
-use borrow.Author.Rules.{rules}
 use Rattle.station.proofs.calls.luscarembo_events.Goals as goal
 
 pub returns : goal.returns
 returns c =
     let a = c.args in
-    let r = replica_of a.scalars.now a.ack-entries.now a.ack-views.now a.vote-entries.now a.vote-masks.now a.vote-views.now in
+    let r = replica_of a.scalars.now a.ack_entries.now a.ack_views.now a.vote_entries.now a.vote_masks.now a.vote_views.now in
     let begun = c.resume.ensures ∙ ap resumed {y = r} c.replica_of-r.ensures in
     let out = a.out.now in
     let runs : State → Ran = λ s. ran s (lines_of a.text.now) (length out) in

@@ -2,7 +2,6 @@ use mathlib.Core.Path.{◌≡◌, sym, ap, ◌∙◌}
 use Rattle.votes.specs.Rows.{number_of}
 use Rattle.station.specs.Calls.{selected_by, selected_words}
 use Rattle.station.proofs.Gathering.{selected_is}
-use borrow.Author.Rules.{rules}
 use Rattle.station.proofs.calls.luscarembo_select.Goals as goal
 use Rattle.station.proofs.calls.luscarembo_select.Goals.{After-select-s}
 
@@ -14,10 +13,10 @@ answer c = selected_is _ _ _ _ _ _ _ c.none.ensures c.gather-rows.ensures c.sele
 
 pub returns-in-Refused : goal.returns-in-Refused
 returns-in-Refused c =
-    let e = sym c.s-1.given.1 ∙ answer (goal.at.returns-in-Refused c).After-select-s in
+    let e = sym c.in-Refused.is ∙ answer (goal.at.returns-in-Refused c).After-select-s in
     (ap number_of e, ap selected_words e)
 
 pub returns-in-Chosen : goal.returns-in-Chosen
 returns-in-Chosen c =
-    let e = sym c.s-in-Chosen-1.given.1 ∙ answer (goal.at.returns-in-Chosen c).After-select-s in
+    let e = sym c.in-Chosen.is ∙ answer (goal.at.returns-in-Chosen c).After-select-s in
     (ap number_of e, c.choice_words.ensures ∙ ap selected_words e)

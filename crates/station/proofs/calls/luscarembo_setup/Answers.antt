@@ -1,6 +1,5 @@
 use Rattle.replica.specs.declared.Step.{Step}
 use Rattle.station.proofs.Kept.{kept}
-use borrow.Author.Rules.{rules}
 use Rattle.station.proofs.calls.luscarembo_setup.Goals as goal
 
 pub returns : goal.returns

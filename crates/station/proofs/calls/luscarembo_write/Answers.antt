@@ -2,7 +2,6 @@ use mathlib.Core.Path.{ap, ◌∙◌}
 use mathlib.Core.List.{[], ◌∷◌}
 use Rattle.messages.specs.declared.write.Written.{Written}
 use Rattle.messages.specs.Writer.{written, afterwards}
-use borrow.Author.Rules.{rules}
 use Rattle.station.proofs.calls.luscarembo_write.Goals as goal
 
 pub returns : goal.returns
