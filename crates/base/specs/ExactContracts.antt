@@ -2,7 +2,6 @@
 -- it means that a contract, as the toolchain holds it, asks nothing and says the answer. `proofs/Contracts.antt` of each library says it of
 -- every public function; that such a contract leaves one answer is `one_answer` in ContractLaws.antt.
 use Rattle.std.specs.Prelude.{ℕ, ◌≡◌, List, [], ◌∷◌, ◌++◌}
-use seplogic.Ra.Ura.{Ura}
 use base.Logic.{SProp, emp, ex, sep}
 use prog.Memory.{Memory}
 use prog.Routine.{Routine}

@@ -47,7 +47,7 @@ abbrev pub opening_number : Opening → ℕ
 opening_number (Read h) = 0
 opening_number Malformed = 19
 
--- ---- the reader as a function of the line: `reads-setup` in SetupLaws.antt says that it answers as `ReadsSetup` asks
+-- ---- the reader as a function of the line: `reads_setup` in SetupLaws.antt says that it answers as `ReadsSetup` asks
 
 -- n, and f or a dash, behind a field that ends at place e.
 unfoldable pub sizes_at : List ℕ → ℕ → SizesAt

@@ -167,7 +167,7 @@ ask_step s q rows =
     answered s (ask_refusals (standing s) q ++ row_refusals s.n s.f q.head.view rows q.entry)
     (confirming s q)
 
--- The same of rows that were gathered one after the other: `gathered-asked` in AskLaws.antt joins the two.
+-- The same of rows that were gathered one after the other: `gathered_asked` in AskLaws.antt joins the two.
 unfoldable pub ask_with : Replica → Request → Rows → Step
 ask_with s q t =
     answered s (ask_refusals (standing s) q ++ gathered_refusals t s.n s.f q.head.view q.entry)

@@ -4,14 +4,11 @@ use mathlib.Core.Path.{◌≡◌, refl, sym, ap, ◌∙◌}
 use mathlib.Core.List.{List, [], ◌∷◌}
 use native.Mathlib.Omega.{arith}
 use lib.ListN.{length, take, drop}
-use types.Run.{OneOf, miss}
-use denote.Enum.Declared.{tag_of}
 use Rattle.votes.specs.declared.Row.{Row}
 use Rattle.votes.specs.declared.Rows.{Rows}
 use Rattle.votes.specs.declared.Selected.{Selected}
 use Rattle.votes.specs.Rows.{no_rows, added, gathered, selected_from}
 use Rattle.votes.specs.Gather.{gathered_selected}
-use Rattle.messages.specs.contracts.Message.{the_type}
 use Rattle.messages.specs.declared.Message.{Message}
 use Rattle.messages.specs.declared.Message.TheVariants.{Start, Enter, Propose, Acknowledge, Cast, Ask, Confirm}
 use Rattle.messages.specs.declared.read.Line.{Line}
@@ -23,16 +20,13 @@ use Rattle.transcript.specs.LineLaws.{first_open, no_end}
 use Rattle.transcript.specs.TextLaws.{LineAt, NoLine, line_found, line_missing}
 use Rattle.station.specs.Calls.{row_then, rows_of, selected_by}
 
--- Every kind but V, which is 4.
-abbrev no_v : List ℕ
-no_v = 0 ∷ 1 ∷ 2 ∷ 3 ∷ 5 ∷ 6 ∷ []
-
-pub other_row : (m : Message) (rows : List Row) → OneOf no_v (tag_of the_type m) → row_then (Read m) rows ≡ []
+-- Every kind but V.
+pub other_row : (m : Message) (rows : List Row) → ((r : Row) → m ≡ Cast r → ⊥) → row_then (Read m) rows ≡ []
 other_row Start rows k = refl
 other_row (Enter v) rows k = refl
 other_row (Propose p) rows k = refl
 other_row (Acknowledge a) rows k = refl
-other_row (Cast r) rows k = absurd (miss no_v 4 tt k)
+other_row (Cast r) rows k = absurd (k r refl)
 other_row (Ask q) rows k = refl
 other_row (Confirm c) rows k = refl
 

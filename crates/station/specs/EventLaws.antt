@@ -57,7 +57,7 @@ pub events_stepped : (r : Replica) (text : List ℕ) (room : ℕ)
 events_stepped r text room = goes_on r text room
 
 -- Of a text whose last byte is an LF these are all its lines, where an event has room behind what was put. Every text has such a room:
--- `enough-room` in PieceLaws.antt.
+-- `enough_room` in PieceLaws.antt.
 pub events_all_stepped : (r : Replica) (text : List ℕ) (room : ℕ) → whole text ≡ true → length (ran_by r text room).text + event_room ≤ room
     → (ran_by r text room).state.replica ≡ replica_after r (happenings 0 (lines_of text))
 events_all_stepped r text room w enough =

@@ -126,13 +126,7 @@ fn gather(rows: Rows, text: &[u8]) -> Rows
 }
 
 // The selection by itself, over rows given as V lines: its number, and its choice.
-pub fn luscarembo_select(
-    n: u8,
-    f: u8,
-    view: u32,
-    text: &[u8],
-    choice: &mut [u64; 3],
-) -> u8
+pub fn luscarembo_select(n: u8, f: u8, view: u32, text: &[u8], choice: &mut [u64; 3]) -> u8
     ensures { (result ≡ number_of (selected_by n f view text.now)) × (choice.new ≡ selected_words (selected_by n f view text.now)) }
 {
     let rows = gather(Rows::none(n, f, View(view)), text);
@@ -150,12 +144,7 @@ pub fn luscarembo_select(
 }
 
 // The line of a message, by the letter of its kind; the answer is the writer's number, and `length` how long the line is.
-pub fn luscarembo_write(
-    kind: u8,
-    words: &Words,
-    buf: &mut [u8],
-    length: &mut [u64; 1],
-) -> u8
+pub fn luscarembo_write(kind: u8, words: &Words, buf: &mut [u8], length: &mut [u64; 1]) -> u8
     ensures { let m = message_of kind words.now in (result ≡ (written buf.old m).number) × (buf.new ≡ afterwards buf.old m) × (length.new ≡ (written buf.old m).length ∷ []) }
 {
     let w = write_line(buf, message_of(kind, words));

@@ -1,8 +1,6 @@
 -- What the definitions say of each kind of message that comes to the arm for all others.
 use Prim.Native.Nat.{ℕ}
-use mathlib.Core.List.{List, [], ◌∷◌}
 use mathlib.Core.Path.{◌≡◌, refl}
-use mathlib.Core.Bool.{false}
 use Rattle.votes.specs.declared.Row.{Row}
 use Rattle.messages.specs.declared.Request.{Request}
 use Rattle.messages.specs.declared.Message.{Message}

@@ -74,7 +74,7 @@ module _ (n f : ℕ) (v : View) (t : VoteRows) where
       become b p (lines_below k ++ text) (lines_below (k + 1)) r d (lines_last k ∙ ap lines_below (sym (add-one k)))
       (put_then b p (lines_below k) q c text r d before it)
 
-  -- ---- each row has a line, of `rowRoom` bytes at most
+  -- ---- each row has a line, of `row_room` bytes at most
   pub row_writable : (k : ℕ) → k ≤ top_seat → RowWritable (seat_row k)
   unfolding row_sent row_at writable
   row_writable k h = go (ltb k n && has_row n f v t k)

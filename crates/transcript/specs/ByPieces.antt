@@ -1,7 +1,7 @@
 -- The program `trace`: a run of these steps prints the transcript of the whole, and every input has one.
 -- In crates/trace/src/main.rt `read_more` is the step `read`, `begin` is `begin`, `feed` is `feed`, `cut_line` is `cut`, `finish` is
 -- `finish`, and `put_refusal` is `bad`, `long` or `missing`.
-use Rattle.std.specs.Prelude.{ℕ, zero, suc, ◌+◌, ◌≤◌, ◌<◌, ◌≡◌, refl, Bool, true, false, not, cond, List, [], ◌∷◌, ◌++◌, eqb, length, drop}
+use Rattle.std.specs.Prelude.{ℕ, zero, suc, ◌≤◌, ◌<◌, ◌≡◌, refl, Bool, true, false, not, cond, List, [], ◌∷◌, ◌++◌, eqb, length, drop}
 use Rattle.std.proofs.Common.{sym, ap, subst, ◌∙◌, append_assoc, append-nil, arith, length-append, length-drop, eq-eqb, ne_eqb, eqb-true}
 use Rattle.std.proofs.lemmas.Bool.{eqb-false}
 use Rattle.base.specs.Tests.{true≢false}

@@ -1,5 +1,5 @@
--- What Feeding.antt prints line by line is what Transcript.antt asks for: `feeds`. With `begins-whole`, `cut-setup` and `ends-setup` in
--- BeginLaws.antt, and `pieces`, `drops` and `ends` in PieceLaws.antt, it makes `by-pieces` in ByPieces.antt.
+-- What Feeding.antt prints line by line is what Transcript.antt asks for: `feeds`. With `begins_whole`, `cut_setup` and `ends_setup` in
+-- BeginLaws.antt, and `pieces`, `drops` and `ends` in PieceLaws.antt, it makes `by_pieces` in ByPieces.antt.
 use Rattle.std.specs.Prelude.{ℕ, zero, suc, ◌+◌, ◌≤◌, ◌≡◌, refl, Bool, true, false, ◌||◌, cond, List, [], ◌∷◌, ◌++◌, ltb, length}
 use Rattle.std.proofs.Common.{sym, ap, ◌∙◌, append-nil, arith, lt-ltb}
 use Rattle.messages.specs.Reader.{read_line}

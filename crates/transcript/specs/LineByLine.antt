@@ -1,4 +1,4 @@
--- Line by line, as Feeding.antt goes, the steps are those that Transcript.antt asks for, event after event: `line-by-line`.
+-- Line by line, as Feeding.antt goes, the steps are those that Transcript.antt asks for, event after event: `line_by_line`.
 -- FeedLaws.antt has from it what is printed, and GoesOn.antt which replica is left.
 use Prim.Native.Nat.{ℕ, zero, suc, ◌-◌}
 use Rattle.std.specs.Prelude.{◌≡◌, Bool, true, cond, ltb, ℤ}

@@ -1,4 +1,4 @@
--- Where a line ends in a text, as the code looks for it: `line-found` and `line-missing` in TextLaws.antt join it to the lines.
+-- Where a line ends in a text, as the code looks for it: `line_found` and `line_missing` in TextLaws.antt join it to the lines.
 use Rattle.std.specs.Prelude.{ℕ, zero, suc, ◌+◌, Bool, false, ◌||◌, cond, List, [], ◌∷◌, eqb, drop, get_or}
 use Rattle.text.specs.Fields.{lf}
 

@@ -51,7 +51,7 @@ module _ {n f : ℕ} {bad : ℕ → Bool} (house : House n f bad) where
     abbrev other : ℕ → ℕ → Bool
     other = is_other n f has vote
 
-    -- The rows of `rowsFor`.
+    -- The rows of `rows_for`.
     abbrev for : ℕ → Entry → ℕ → Bool
     for w y k = other_at n f has vote w k && same (vote k).entry y
 

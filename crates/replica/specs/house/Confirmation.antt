@@ -14,7 +14,7 @@ use Rattle.replica.specs.house.Runs.{Member, Members, Among, Setting, Correct, R
 
 -- "a request sent by a correct leader, delivered unaltered with its rows and marks to a correct seat then in that view, is always
 -- confirmed."
--- `tidyRows delivered ≡ tidy_rows rows`: delivered unaltered, as lines have them, without the fields of a nil vote that do not count.
+-- `tidy_rows delivered ≡ tidy_rows rows`: delivered unaltered, as lines have them, without the fields of a nil vote that do not count.
 pub confirmation : (n f : ℕ) (faulty : ℕ → Bool) → Setting n f faulty → (h : Members) → Run n f faulty h
     → (j : ℕ) → Correct n faulty j → (leader : Member) → h j ≡ some leader → (q : Request) (rows : List Row) → Among (Ask q, rows) leader.sent
     → (delivered : List Row) → tidy_rows delivered ≡ tidy_rows rows

@@ -1,5 +1,4 @@
 use Rattle.transcript.proofs.Beginning.{begun_is}
-use borrow.Author.Rules.{rules}
 use Rattle.transcript.proofs.begin.begin.Goals as goal
 
 pub returns : goal.returns

@@ -1,4 +1,3 @@
-use borrow.Author.Rules.{rules}
 use Rattle.transcript.proofs.begin.no_request.Goals as goal
 
 pub returns : goal.returns

@@ -1,7 +1,5 @@
 -- What the loop keeps.
 use Rattle.std.proofs.Common.{◌-◌, length}
-use mir.Syntax.{w32}
-use mir.Val.{to_z}
 use Rattle.transcript.proofs.Stepping.{standing}
 use Rattle.transcript.proofs.Turns.{Going}
 use Rattle.transcript.proofs.feed.feed.Given as goal

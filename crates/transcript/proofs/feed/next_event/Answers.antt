@@ -1,7 +1,6 @@
 use mathlib.Core.Path.{sym}
 use borrow.Author.Tests.{lt-ltb, le-ltb}
 use Rattle.transcript.specs.Feeding.{next_event, last_event}
-use borrow.Author.Rules.{rules}
 use Rattle.transcript.proofs.feed.next_event.Goals as goal
 
 pub returns-then-k-lt-LAST : goal.returns-then-k-lt-LAST

@@ -1,10 +1,7 @@
 use Prim.Native.Nat.{◌-◌}
-use mathlib.Core.Path.{◌≡◌, ◌∙◌}
-use native.Mathlib.Omega.{arith}
+use mathlib.Core.Path.{◌≡◌}
 use lib.ListN.{length}
-use Rattle.transcript.specs.TextLaws.{line_ends, line_goes, line_over}
 use Rattle.transcript.specs.LineEnds.{behind_line}
-use borrow.Author.Rules.{rules}
 use Rattle.transcript.proofs.lines.behind_line.Given as goal
 
 abbrev pub invariant-loop-i : goal.invariant-loop-i

@@ -1,4 +1,4 @@
-use Prim.Native.Nat.{◌+◌, ◌-◌, ◌≤◌}
+use Prim.Native.Nat.{◌+◌}
 use mathlib.Core.Bool.{Bool, ◌||◌}
 use mathlib.Core.Path.{◌≡◌, refl, sym, ap, ◌∙◌}
 use native.Mathlib.Numerals.{add-one}
@@ -7,7 +7,6 @@ use lib.ListN.{get_or}
 use lib.Dec.{eqb}
 use Rattle.text.specs.Fields.{lf}
 use Rattle.transcript.specs.LineEnds.{has_lf}
-use borrow.Author.Rules.{rules}
 use Rattle.transcript.proofs.lines.block_has.Goals as goal
 
 pub loop-i-init : goal.loop-i-init

@@ -1,7 +1,6 @@
 use Prim.Native.Nat.{◌≤◌}
 use lib.ListN.{length}
 use native.Mathlib.Omega.{arith}
-use borrow.Author.Rules.{rules}
 use Rattle.transcript.specs.TextLaws.{line_over}
 use Rattle.transcript.proofs.lines.end_of_line.Goals as goal
 

@@ -1,10 +1,6 @@
-use Prim.Native.Nat.{◌-◌, ◌≤◌}
-use mathlib.Core.Path.{◌≡◌, refl, sym, ◌∙◌}
+use mathlib.Core.Path.{refl, sym, ◌∙◌}
 use native.Mathlib.Omega.{arith}
-use lib.ListN.{length}
 use Rattle.transcript.specs.TextLaws.{line_passes}
-use Rattle.transcript.specs.LineEnds.{behind_line}
-use borrow.Author.Rules.{rules}
 use Rattle.transcript.proofs.lines.skip_blocks.Goals as goal
 
 pub loop-i-init : goal.loop-i-init

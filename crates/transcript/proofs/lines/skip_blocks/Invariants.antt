@@ -1,10 +1,7 @@
 use Prim.Native.Nat.{◌-◌, ◌≤◌}
-use mathlib.Core.Path.{◌≡◌, refl, sym, ◌∙◌}
-use native.Mathlib.Omega.{arith}
+use mathlib.Core.Path.{◌≡◌}
 use lib.ListN.{length}
-use Rattle.transcript.specs.TextLaws.{line_passes}
 use Rattle.transcript.specs.LineEnds.{behind_line}
-use borrow.Author.Rules.{rules}
 use Rattle.transcript.proofs.lines.skip_blocks.Given as goal
 
 abbrev pub invariant-loop-i : goal.invariant-loop-i

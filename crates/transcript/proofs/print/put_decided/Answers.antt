@@ -7,7 +7,6 @@ use Rattle.entry.specs.HexLaws.{text_length}
 use Rattle.replica.specs.declared.Decided.{Decided}
 use Rattle.transcript.specs.Printed.{decided_text}
 use Rattle.transcript.proofs.Printing.{byte_behind}
-use borrow.Author.Rules.{rules}
 use Rattle.transcript.proofs.print.put_decided.Goals as goal
 
 -- The text of what d was told to be.
@@ -15,10 +14,10 @@ said : {d x : Decided} → d ≡ x → decided_text x ++ (tab ∷ []) ≡ decide
 said e = ap (λ (y : Decided). decided_text y ++ (tab ∷ [])) (sym e)
 
 pub returns-in-Nothing : goal.returns-in-Nothing
-returns-in-Nothing c =         let text = said c.in-Nothing.is in
+returns-in-Nothing c = let text = said c.in-Nothing.is in
     (byte_behind _ _ _ _ 1 _ _ _ _ c.put_byte.ensures refl c.put_byte-in-Nothing.ensures (omega arith) text, omega arith)
 
 pub returns-in-Now : goal.returns-in-Now
-returns-in-Now c =         let text = said c.in-Now.is in
+returns-in-Now c = let text = said c.in-Now.is in
     let long = sym (text_length _) in
     (byte_behind _ _ _ _ entry_digits _ _ _ _ c.put_text.ensures long c.put_byte-in-Now.ensures refl text, omega arith)

@@ -5,7 +5,6 @@ use lib.ListN.{length}
 use Rattle.messages.specs.Lines.{line}
 use Rattle.transcript.proofs.Printing.{message_size, message_put}
 use Rattle.transcript.proofs.Lengths.{line_short}
-use borrow.Author.Rules.{rules}
 use Rattle.transcript.proofs.print.put_message.Goals as goal
 use Rattle.transcript.proofs.print.put_message.Goals.{After-struct_known-1, Start}
 
@@ -23,6 +22,6 @@ pub overflow_add-result : goal.overflow_add-result
 overflow_add-result c = omega (arith, size (goal.at.overflow_add-result c).After-struct_known-1, line_short c.args.m)
 
 pub returns : goal.returns
-returns c =         let a = c.args in
+returns c = let a = c.args in
     let e = c.write_line-w.ensures in
     (message_put a.s.now a.at a.m _ c.requires.0 (fits (goal.at.returns c).Start) e.0 _ e.1, omega (arith, size (goal.at.returns c).After-struct_known-1, line_short a.m))

@@ -1,17 +1,15 @@
-use Prim.Native.Nat.{◌+◌, ◌-◌, ◌*◌, ◌≤◌, ◌<◌, ◌^◌}
+use Prim.Native.Nat.{◌+◌, ◌*◌, ◌≤◌, ◌<◌, ◌^◌}
 use mathlib.Core.Bool.{Bool, cond}
 use mathlib.Core.Path.{◌≡◌, sym, ap, ◌∙◌, subst}
 use native.Mathlib.Omega.{arith}
 use borrow.Author.Tests.{le-leb}
 use Rattle.text.specs.PutLaws.{puts_nothing, become}
-use Rattle.text.specs.Put.{Puts}
 use Rattle.votes.specs.declared.VoteRows.{VoteRows}
 use Rattle.votes.specs.Request.{rows_sent}
 use Rattle.votes.specs.Rows.{votes_of, table_of}
 use Rattle.transcript.specs.Printed.{RowWritable}
 use Rattle.transcript.specs.Rooms.{row_room}
 use Rattle.transcript.proofs.SentRows.{lines_below, row_more, row_writable, rows_short}
-use borrow.Author.Rules.{rules}
 use Rattle.transcript.proofs.print.put_rows.Goals as goal
 use Rattle.transcript.proofs.print.put_rows.Goals.{After-rows_of-end, At-loop-k, Start}
 
@@ -41,7 +39,7 @@ pub overflow_cast-k : goal.overflow_cast-k
 overflow_cast-k c = omega (arith, (short (goal.at.overflow_cast-k c).At-loop-k).0)
 
 pub put_row-p-requires : goal.put_row-p-requires
-put_row-p-requires c =             let less = c.loop-k-test.true in
+put_row-p-requires c = let less = c.loop-k-test.true in
     let h = short (goal.at.put_row-p-requires c).At-loop-k in
     let can = row_writable c.args.n c.args.f c.args.v (table (goal.at.put_row-p-requires c).Start) c.loop-k.k (omega arith) in (
       subst RowWritable (sym c.request_row-r.ensures) can,
@@ -52,18 +50,18 @@ pub loop-k-smaller : goal.loop-k-smaller
 loop-k-smaller c = omega arith
 
 pub loop-k-preserved : goal.loop-k-preserved
-loop-k-preserved c =             (
-      omega (arith, c.loop-k-test.true),
-      row_more c.args.n c.args.f c.args.v (table (goal.at.loop-k-preserved c).Start) _ _ c.loop-k.k _ _ _ _ _ c.loop-k.invariant.1
-          c.request_row-r.ensures c.put_row-p.ensures,
-    )
+loop-k-preserved c = (
+  omega (arith, c.loop-k-test.true),
+  row_more c.args.n c.args.f c.args.v (table (goal.at.loop-k-preserved c).Start) _ _ c.loop-k.k _ _ _ _ _ c.loop-k.invariant.1
+      c.request_row-r.ensures c.put_row-p.ensures,
+)
 
 pub shape_of-s : goal.shape_of-s
 shape_of-s c = c.loop-k.invariant.1.same
 
 pub returns : goal.returns
 unfolding rows_sent
-returns c =         let a = c.args in
+returns c = let a = c.args in
     let end : c.loop-k.k ≡ a.n = omega (arith, c.loop-k.invariant.0, c.loop-k-test.false, all (goal.at.returns c).After-rows_of-end) in (
       become _ _ _ _ _ _ (ap (lines_below a.n a.f a.v (table (goal.at.returns c).Start)) end) c.loop-k.invariant.1,
       omega (arith, short (goal.at.returns c).At-loop-k),

@@ -1,17 +1,7 @@
-use Prim.Native.Nat.{◌+◌, ◌-◌, ◌*◌, ◌≤◌, ◌<◌, ◌^◌}
-use mathlib.Core.Bool.{Bool, cond}
-use mathlib.Core.Path.{◌≡◌, sym, ap, ◌∙◌, subst}
-use native.Mathlib.Omega.{arith}
-use borrow.Author.Tests.{le-leb}
-use Rattle.text.specs.PutLaws.{puts_nothing, become}
+use Prim.Native.Nat.{◌-◌, ◌≤◌}
 use Rattle.text.specs.Put.{Puts}
-use Rattle.votes.specs.declared.VoteRows.{VoteRows}
-use Rattle.votes.specs.Request.{rows_sent}
 use Rattle.votes.specs.Rows.{votes_of, table_of}
-use Rattle.transcript.specs.Printed.{RowWritable}
-use Rattle.transcript.specs.Rooms.{row_room}
-use Rattle.transcript.proofs.SentRows.{lines_below, row_more, row_writable, rows_short}
-use borrow.Author.Rules.{rules}
+use Rattle.transcript.proofs.SentRows.{lines_below}
 use Rattle.transcript.proofs.print.put_rows.Given as goal
 
 abbrev pub invariant-loop-k : goal.invariant-loop-k

@@ -1,5 +1,4 @@
 use mathlib.Core.Path.{sym, ◌∙◌}
-use borrow.Author.Rules.{rules}
 use Rattle.transcript.proofs.sort.read_unless.Goals as goal
 
 pub returns : goal.returns

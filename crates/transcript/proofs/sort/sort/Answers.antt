@@ -1,7 +1,6 @@
 use mathlib.Core.Path.{sym, ◌∙◌}
 use borrow.Author.Tests.{lt-ltb, le-ltb}
 use Rattle.transcript.specs.Feeding.{sorted}
-use borrow.Author.Rules.{rules}
 use Rattle.transcript.proofs.sort.sort.Goals as goal
 
 pub returns-then-left-gt0 : goal.returns-then-left-gt0

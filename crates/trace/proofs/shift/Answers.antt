@@ -6,12 +6,8 @@ use lib.ListN.{length, take, drop, get_or, set, length-append, length-drop}
 use lib.Seq.{length-take-le, take-suc, drop-cons, append_snoc, set_at, get_or-drop, get_or-append-add}
 use Rattle.messages.specs.Writer.{lent}
 use borrow.Author.Rules.{rules}
-use Rattle.trace.proofs.shift.Statement.{statement}
-use Rattle.trace.proofs.shift.Tie as tie
-
--- k bytes were moved.
-abbrev moved : List ℕ → ℕ → ℕ → List ℕ
-moved b from k = lent b (take k (drop from b))
+use Rattle.trace.proofs.shift.Invariants.{moved}
+use Rattle.trace.proofs.shift.Goals as goal
 
 module _ (b : List ℕ) (from k : ℕ) (h : from + k < length b) where
   front_length : length (take k (drop from b)) ≡ k
@@ -40,6 +36,7 @@ module _ (b : List ℕ) (from k : ℕ) (h : from + k < length b) where
       ∙ ap (lent b) (sym longer)
 
 -- A turn of the loop.
+
 turned :
     (b l : List ℕ) (from i : ℕ) → from ≤ i → i < length b → l ≡ moved b from (i - from)
     → set l (i - from) (get_or l i 0) ≡ moved b from (i + 1 - from)
@@ -53,66 +50,21 @@ turned b l from i le lt is =
     ∙ one_more b from k h
     ∙ ap (moved b from) n
 
-abbrev invariant-loop : tie.invariant-loop
-invariant-loop buf₀ from end i₀ buf i =
-    (from ≤ i) × (i ≤ end) × (end ≤ length buf₀) × (length buf ≡ length buf₀) × (buf ≡ moved buf₀ from (i - from))
-
-abbrev decreases-loop : tie.decreases-loop
-decreases-loop buf₀ from end i₀ buf i = end - i
-
-loop-holds : tie.Need-loop-init invariant-loop decreases-loop
-loop-holds c =
+pub loop-i-init : goal.loop-i-init
+loop-i-init c =
     let a = c.args in
     let none : 0 ≡ a.w.at - a.w.at = omega arith in
     (omega arith, c.requires.0, c.requires.1, refl, ap (moved a.buf.now a.w.at) none)
 
-slice-read-buf : tie.Need-slice-read-buf invariant-loop decreases-loop
-slice-read-buf c = search rules
-
-sub-buf : tie.Need-overflow-sub-buf invariant-loop decreases-loop
-sub-buf c = search rules
-
-slice-write-buf : tie.Need-slice-write-buf invariant-loop decreases-loop
-slice-write-buf c = search rules
-
-add-i : tie.Need-overflow-add-i invariant-loop decreases-loop
-add-i c = search rules
-
-loop-less : tie.Need-loop-smaller invariant-loop decreases-loop
-loop-less c = search rules
-
-loop-again : tie.Need-loop-preserved invariant-loop decreases-loop
-loop-again c =
-    let l = c.before.before.loop in
-    let a = c.before.before.before.args in
+pub loop-i-preserved : goal.loop-i-preserved
+loop-i-preserved c =
+    let l = c.loop-i in
+    let a = c.args in
     (omega arith, omega arith, omega arith, search rules, turned a.buf.now l.buf a.w.at l.i (omega arith) (omega arith) l.invariant.4)
 
-sub-result : tie.Need-overflow-sub-result invariant-loop decreases-loop
-sub-result c = search rules
-
-same_length : tie.Need-same-length invariant-loop decreases-loop
-same_length c = search rules
-
-returns : tie.Need-returns invariant-loop decreases-loop
+pub returns : goal.returns
 returns c =
-    let l = c.before.loop in
-    let a = c.before.before.args in
+    let l = c.loop-i in
+    let a = c.args in
     let all : l.i ≡ a.w.end = omega arith in
     (refl, l.invariant.4 ∙ ap (λ (i : ℕ). moved a.buf.now a.w.at (i - a.w.at)) all)
-
-pub shift_spec : {M : Type 1} → statement M
-shift_spec =
-    tie.close
-    (tie.spec
-    invariant-loop
-    decreases-loop
-    loop-holds
-    slice-read-buf
-    sub-buf
-    slice-write-buf
-    add-i
-    loop-less
-    loop-again
-    sub-result
-    same_length
-    returns)
