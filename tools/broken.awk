@@ -62,7 +62,7 @@ function log_of() {
 
 # One open block of each function is applied to a copy of the sources as they are.
 function break_some(    b, seen, many) {
-    system("rm -rf '" to "' && mkdir '" to "' && cd '" from "' && cp -R src specs proofs '" to "'")
+    system("rm -rf '" to "' && mkdir '" to "' && cd '" from "' && cp -R `ls | grep -E "^(src|specs|proofs)$"` '" to "'")
     for (b = 1; b <= blocks; b += 1) {
         applied[b] = 0
         if (open[b] && !((of[b]) in seen)) {
@@ -86,6 +86,8 @@ function change(b,    path, text, line, at, head, parts, n) {
     while (substr(text, at, 1) !~ /[(<]/)
     at = behind(text, at, old[b], b)
     head = substr(text, 1, at - length(old[b]) - 1)
+    n = split(head old[b], parts, "\n")
+    if (parts[n] ~ /^ *(requires|ensures)/) stop(of[b] name[b] ": the first '" old[b] "' stands in its contract")
     printf "%s%s%s", head, new[b], substr(text, at) > path
     close(path)
     if (renamed[b] != "") respell(b)
