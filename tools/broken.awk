@@ -62,7 +62,7 @@ function log_of() {
 
 # One open block of each function is applied to a copy of the sources as they are.
 function break_some(    b, seen, many) {
-    system("rm -rf '" to "' && mkdir '" to "' && cd '" from "' && cp -R `ls | grep -E "^(src|specs|proofs)$"` '" to "'")
+    system("rm -rf '" to "' && mkdir '" to "' && cd '" from "' && cp -R `ls | grep -xE \"src|specs|proofs\"` '" to "'")
     for (b = 1; b <= blocks; b += 1) {
         applied[b] = 0
         if (open[b] && !((of[b]) in seen)) {
