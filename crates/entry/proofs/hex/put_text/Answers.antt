@@ -11,18 +11,21 @@ use Rattle.std.proofs.Common.{not}
 use Rattle.entry.proofs.hex.put_text.Goals as goal
 
 pub returns-then-not-has_room : goal.returns-then-not-has_room
-returns-then-not-has_room c = let a = c.args in
+returns-then-not-has_room c =
+    let a = c.args in
     let r = c.has_room in
     no_room a.s.now a.at a.e (sym r.ensures ∙ not-true r.result (ap not c.if-not-has_room.true))
 
 pub overflow_add-at : goal.overflow_add-at
-overflow_add-at c = let a = c.args in
+overflow_add-at c =
+    let a = c.args in
     let r = c.has_room in
     let here = sym r.ensures ∙ not-false r.result (ap not c.if-not-has_room.false) in
     omega (arith, leb-true (a.at + entry_digits) (length a.s.now) here)
 
 pub returns : goal.returns
-returns c = let a = c.args in
+returns c =
+    let a = c.args in
     let r = c.has_room in
     let open_at = (ap not c.if-not-has_room.false) in
     let here = sym r.ensures ∙ not-false r.result open_at in

@@ -6,13 +6,15 @@ use native.Mathlib.Omega.{arith}
 use Rattle.messages.proofs.read.letter_at.Goals as goal
 
 pub overflow_add-result : goal.overflow_add-result
-overflow_add-result c = let a = c.args in
+overflow_add-result c =
+    let a = c.args in
     let p = c.place_behind-p in
     let f = c.field-f in
     omega (arith, found_le a.t.now a.end p.result f.result.now p.ensures f.ensures)
 
 pub returns : goal.returns
-returns c = let a = c.args in
+returns c =
+    let a = c.args in
     let p = c.place_behind-p in
     let f = c.field-f in
     let is = found a.t.now a.end p.result f.result.now p.ensures f.ensures in

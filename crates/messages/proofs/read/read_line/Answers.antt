@@ -5,5 +5,6 @@ use Rattle.messages.proofs.read.read_line.Goals as goal
 
 pub returns : goal.returns
 unfolding read_line
-returns c = let kind = c.letter-kind.ensures ∙ ap letter_of c.field.ensures in
+returns c =
+    let kind = c.letter-kind.ensures ∙ ap letter_of c.field.ensures in
     c.message_at.ensures ∙ ap (message_at c.args.line.now 1) kind

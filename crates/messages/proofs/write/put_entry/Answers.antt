@@ -5,5 +5,6 @@ use borrow.Author.Rules.{rules}
 use Rattle.messages.proofs.write.put_entry.Goals as goal
 
 pub returns : goal.returns
-returns c = let a = c.args in
+returns c =
+    let a = c.args in
     (field_put _ _ _ _ _ _ c.put_byte.ensures c.put_text.ensures (omega (arith, text_length a.e)), search rules)

@@ -5,7 +5,8 @@ use borrow.Author.Rules.{rules}
 use Rattle.messages.proofs.write.put_head.Goals as goal
 
 pub returns : goal.returns
-returns c = let a = c.args in
+returns c =
+    let a = c.args in
     let h = a.h in
     let one = seat h.seat in
     let sign = mark h.verified in

@@ -4,11 +4,13 @@ use Rattle.messages.proofs.Writing.{field_put}
 use Rattle.messages.proofs.write.put_number.Goals as goal
 
 pub overflow_add-result-2 : goal.overflow_add-result-2
-overflow_add-result-2 c = let a = c.args in
+overflow_add-result-2 c =
+    let a = c.args in
     omega (arith, c.put_decimal-k.ensures.0, width_le a.x)
 
 pub returns : goal.returns
-returns c = let a = c.args in
+returns c =
+    let a = c.args in
     let w = c.put_decimal-k.ensures in (
       field_put _ _ _ _ _ _ c.put_byte.ensures w.1 (omega (arith, w.0, decimal_length a.x)),
       omega (arith, w.0, width_le a.x),

@@ -11,13 +11,15 @@ use borrow.Author.Rules.{rules}
 use Rattle.messages.proofs.write.put_vote.Goals as goal
 
 pub returns-then-not-x : goal.returns-then-not-x
-returns-then-not-x c = let a = c.args in
+returns-then-not-x c =
+    let a = c.args in
     let x = a.x in
     let nil : x.cast ≡ false = not-true x.cast c.if-not-x.true in
     (become _ _ _ _ _ _ (ap (λ (b : Bool). tabbed (vote b x)) (sym nil)) c.put_mark.ensures.0, search rules)
 
 pub returns : goal.returns
-returns c = let a = c.args in
+returns c =
+    let a = c.args in
     let x = a.x in
     let cast : x.cast ≡ true = not-false x.cast c.if-not-x.false in
     let u = view x.view in

@@ -13,7 +13,8 @@ use Rattle.messages.proofs.write.vote_length.Goals as goal
 use Rattle.messages.proofs.write.vote_length.Goals.{After-width}
 
 pub returns-then-not-x : goal.returns-then-not-x
-returns-then-not-x c = let x = c.args.x in
+returns-then-not-x c =
+    let x = c.args.x in
     let nil : x.cast ≡ false = not-true x.cast c.if-not-x.true in
     (ap (λ (b : Bool). length (tabbed (vote b x))) (sym nil), lit≤ tt)
 
@@ -40,7 +41,8 @@ pub overflow_add-result-6 : goal.overflow_add-result-6
 overflow_add-result-6 c = omega (arith, few (goal.at.overflow_add-result-6 c).After-width)
 
 pub returns : goal.returns
-returns c = let x = c.args.x in
+returns c =
+    let x = c.args.x in
     let cast : x.cast ≡ true = not-false x.cast c.if-not-x.false in
     let w = c.width.ensures in
     let same = ap (λ (b : Bool). length (tabbed (vote b x))) (sym cast) in

@@ -14,7 +14,8 @@ pub overflow_cast-result : goal.overflow_cast-result
 overflow_cast-result c = omega (arith, c.seats_in.ensures, seats_le c.rows_held.result)
 
 pub returns : goal.returns
-returns c = let a = c.args in
+returns c =
+    let a = c.args in
     let t = table_of a.filled (votes_of a.cast a.verified a.entries.now a.masks.now a.views.now) in
     simp (not-false a.c (ap not c.if-not-c.false))
     (c.seats_in.ensures ∙ rows_counted a.n a.f a.v t c.rows_held.result c.rows_held.ensures)

@@ -16,7 +16,8 @@ pub overflow_sub-result : goal.overflow_sub-result
 overflow_sub-result c = omega (arith, shift c.args.n c.if-n-lt64.true, pow_pos c.args.n)
 
 pub returns-then-n-lt64 : goal.returns-then-n-lt64
-returns-then-n-lt64 c = let n = c.args.n in
+returns-then-n-lt64 c =
+    let n = c.args.n in
     let all : (1 * 2 ^ n) % 2 ^ 64 - 1 ≡ mask (λ k. true) n = omega (arith, shift n c.if-n-lt64.true, full_is 0 n) in
     all ∙ sym (ap (mask (λ k. true)) (rows_is n (search rules)))
 

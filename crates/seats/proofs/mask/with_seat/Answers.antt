@@ -11,7 +11,8 @@ use Rattle.seats.proofs.mask.with_seat.Goals as goal
 
 pub returns-then-k-lt64 : goal.returns-then-k-lt64
 unfolding with_seat
-returns-then-k-lt64 c = let k = c.args.s.0 in
+returns-then-k-lt64 c =
+    let k = c.args.s.0 in
     let room : 1 + k ≤ 64 = omega arith in
     simp (lt-ltb _ _ c.if-k-lt64.true) (ap (bit_or c.args.m) (shl_exact 1 k 64 (lit< tt) room ∙ one-mul _))
 

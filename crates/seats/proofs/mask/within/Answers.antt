@@ -24,6 +24,7 @@ at_most m n h false e =
     ∙ sym (lt-ltb m (2 ^ n) (lt_of_lt_of_le h (pow_mono (let z : 64 ≤ n = omega arith in z))))
 
 pub returns : goal.returns
-returns c = let m = c.args.m in
+returns c =
+    let m = c.args.m in
     let n = c.args.n in
     ap (leb m) c.below.ensures ∙ at_most m n (search rules) (leb n 64) refl

@@ -13,13 +13,15 @@ pub returns-then-out-lt-ROOM : goal.returns-then-out-lt-ROOM
 returns-then-out-lt-ROOM c = no_room c.args.out.now _ c.if-out-lt-ROOM.true
 
 pub returns-then-not-more-state : goal.returns-then-not-more-state
-returns-then-not-more-state c = let a = c.args in
+returns-then-not-more-state c =
+    let a = c.args in
     let none = last_none a.state a.more (ap not c.if-not-more-state.true) in
     let put = become _ _ _ _ _ _ none (puts_nothing a.out.now 0) in
     whole_put _ _ _ _ c.if-out-lt-ROOM.false put (omega (arith, ap length none))
 
 pub returns : goal.returns
-returns c = let a = c.args in
+returns c =
+    let a = c.args in
     let e = c.put_event.ensures in
     let m = a.state.margin in
     let back : to_z w32 (of_z w32 m) ≡ m = search rules in

@@ -18,13 +18,15 @@ loop-i-smaller c = omega arith
 
 pub loop-i-preserved : goal.loop-i-preserved
 unfolding has_lf
-loop-i-preserved c = let l = c.loop-i in
+loop-i-preserved c =
+    let l = c.loop-i in
     let a = c.args in
     let found = eqb (get_or a.s.now (a.at + l.i) 0) lf in
     (omega arith, ap (λ (b : Bool). b || found) l.invariant.1 ∙ ap (has_lf a.s.now a.at) (sym (add-one l.i)))
 
 pub returns : goal.returns
-returns c = let l = c.loop-i in
+returns c =
+    let l = c.loop-i in
     let a = c.args in
     let all : l.i ≡ 16 = omega arith in
     l.invariant.1 ∙ ap (has_lf a.s.now a.at) all

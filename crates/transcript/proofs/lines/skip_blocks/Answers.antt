@@ -13,7 +13,8 @@ pub loop-i-smaller : goal.loop-i-smaller
 loop-i-smaller c = omega arith
 
 pub loop-i-preserved : goal.loop-i-preserved
-loop-i-preserved c = let l = c.loop-i in
+loop-i-preserved c =
+    let l = c.loop-i in
     let a = c.args in
     let none = sym c.block_has.ensures ∙ c.if-block_has.false in
     (line_passes a.s.now l.i 16 (omega arith) none ∙ l.invariant.0, omega arith)

@@ -14,10 +14,12 @@ said : {d x : Decided} → d ≡ x → decided_text x ++ (tab ∷ []) ≡ decide
 said e = ap (λ (y : Decided). decided_text y ++ (tab ∷ [])) (sym e)
 
 pub returns-in-Nothing : goal.returns-in-Nothing
-returns-in-Nothing c = let text = said c.in-Nothing.is in
+returns-in-Nothing c =
+    let text = said c.in-Nothing.is in
     (byte_behind _ _ _ _ 1 _ _ _ _ c.put_byte.ensures refl c.put_byte-in-Nothing.ensures (omega arith) text, omega arith)
 
 pub returns-in-Now : goal.returns-in-Now
-returns-in-Now c = let text = said c.in-Now.is in
+returns-in-Now c =
+    let text = said c.in-Now.is in
     let long = sym (text_length _) in
     (byte_behind _ _ _ _ entry_digits _ _ _ _ c.put_text.ensures long c.put_byte-in-Now.ensures refl text, omega arith)

@@ -14,5 +14,6 @@ pub returns-in-Empty : goal.returns-in-Empty
 returns-in-Empty c = become _ _ _ _ _ _ (ap (λ (x : SeatRow). row_lines (row_list x [])) (sym c.in-Empty.is)) (puts_nothing _ _)
 
 pub returns-in-Filled : goal.returns-in-Filled
-returns-in-Filled c = let text = sym (append-nil _) ∙ ap (λ (y : SeatRow). row_lines (row_list y [])) (sym c.in-Filled.is) in
+returns-in-Filled c =
+    let text = sym (append-nil _) ∙ ap (λ (y : SeatRow). row_lines (row_list y [])) (sym c.in-Filled.is) in
     become _ _ _ _ _ _ text c.put_message.ensures.0

@@ -39,7 +39,8 @@ pub overflow_cast-k : goal.overflow_cast-k
 overflow_cast-k c = omega (arith, (short (goal.at.overflow_cast-k c).At-loop-k).0)
 
 pub put_row-p-requires : goal.put_row-p-requires
-put_row-p-requires c = let less = c.loop-k-test.true in
+put_row-p-requires c =
+    let less = c.loop-k-test.true in
     let h = short (goal.at.put_row-p-requires c).At-loop-k in
     let can = row_writable c.args.n c.args.f c.args.v (table (goal.at.put_row-p-requires c).Start) c.loop-k.k (omega arith) in (
       subst RowWritable (sym c.request_row-r.ensures) can,
@@ -61,7 +62,8 @@ shape_of-s c = c.loop-k.invariant.1.same
 
 pub returns : goal.returns
 unfolding rows_sent
-returns c = let a = c.args in
+returns c =
+    let a = c.args in
     let end : c.loop-k.k ≡ a.n = omega (arith, c.loop-k.invariant.0, c.loop-k-test.false, all (goal.at.returns c).After-rows_of-end) in (
       become _ _ _ _ _ _ (ap (lines_below a.n a.f a.v (table (goal.at.returns c).Start)) end) c.loop-k.invariant.1,
       omega (arith, short (goal.at.returns c).At-loop-k),

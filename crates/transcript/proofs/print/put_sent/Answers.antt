@@ -9,7 +9,8 @@ pub put_message-requires : goal.put_message-requires
 put_message-requires c = (subst SentWritable c.in-Message.is c.requires.0, omega (arith, c.requires.1))
 
 pub returns-in-Nothing : goal.returns-in-Nothing
-returns-in-Nothing c = let text = ap sent_text (sym c.in-Nothing.is) in
+returns-in-Nothing c =
+    let text = ap sent_text (sym c.in-Nothing.is) in
     (byte_behind _ _ _ _ 1 _ _ _ _ c.put_byte.ensures refl c.put_byte-in-Nothing.ensures (omega arith) text, omega arith)
 
 pub returns-in-Message : goal.returns-in-Message

@@ -5,7 +5,8 @@ use Rattle.votes.proofs.Rows.request_number.Goals as goal
 
 pub returns : goal.returns
 unfolding gathered_refusals
-returns c = let self = c.args.self in
+returns c =
+    let self = c.args.self in
     simp (
       c.pick-2.ensures,
       c.pick.ensures,

@@ -29,25 +29,29 @@ inside c =
 
 pub returns-then-number-ne0 : goal.returns-then-number-ne0
 unfolding selected_from
-returns-then-number-ne0 c = let t = c.args.self in
+returns-then-number-ne0 c =
+    let t = c.args.self in
     let e = c.call_number-number.ensures in
     let same = rows_refused t.n t.f t.view t.broken (λ z. c.if-number-ne0.true (e ∙ z)) in
     ap Selected.Refused (e ∙ sym same) ∙ answered_refused _ _ (λ z. c.if-number-ne0.true (e ∙ sym same ∙ z))
 
 pub returns-then-self : goal.returns-then-self
 unfolding selected_from
-returns-then-self c = let t = c.args.self in
+returns-then-self c =
+    let t = c.args.self in
     let same : rows_number t.n t.f t.view t.broken ≡ 15 =
     rows_taken t.n t.f t.view t.broken (number_0 (goal.at.returns-then-self c).Else-number-ne0) ∙ ap (λ b. cond b 15 0) c.if-self.true in
     ap Selected.Refused (sym same) ∙ answered_refused _ _ (λ z. omega arith)
 
 pub five_steps-requires : goal.five_steps-requires
-five_steps-requires c = let a = allowed (goal.at.five_steps-requires c).Else-number-ne0 in
+five_steps-requires c =
+    let a = allowed (goal.at.five_steps-requires c).Else-number-ne0 in
     (omega (arith, a.least), a.most, (inside (goal.at.five_steps-requires c).After-below).below)
 
 pub returns : goal.returns
 unfolding selected_from vote_at
-returns c = let t = c.args.self in
+returns c =
+    let t = c.args.self in
     let same : rows_number t.n t.f t.view t.broken ≡ 0 =
     rows_taken t.n t.f t.view t.broken (number_0 (goal.at.returns c).Else-number-ne0) ∙ ap (λ b. cond b 15 0) c.if-self.false in
     ap Selected.Chosen

@@ -6,7 +6,8 @@ use borrow.Author.Rules.{rules}
 use Rattle.votes.proofs.request.request_row.Goals as goal
 
 pub vote_at-requires : goal.vote_at-requires
-vote_at-requires c = let a = c.args in
+vote_at-requires c =
+    let a = c.args in
     let held = c.row_held-held.result in
     row_low a.n a.f a.v _ a.s.0 held c.row_held-held.ensures (and_true (ltb a.s.0 a.n) held c.if-s-n.true).1 (search rules)
 

@@ -11,7 +11,8 @@ use Rattle.votes.proofs.search.holding.Goals as goal
 use Rattle.votes.proofs.search.holding.Goals.{After-same}
 
 pub loop-i-init : goal.loop-i-init
-loop-i-init c = let a = c.args in
+loop-i-init c =
+    let a = c.args in
     (omega arith, packed_none (test a.rows a.entries.now a.e) a.n a.n refl)
 
 -- One seat more, and it fits.
@@ -35,6 +36,7 @@ pub loop-i-preserved : goal.loop-i-preserved
 loop-i-preserved c = (omega arith, (next (goal.at.loop-i-preserved c).After-same).0)
 
 pub returns : goal.returns
-returns c = let l = c.loop-i in
+returns c =
+    let l = c.loop-i in
     let a = c.args in
     packed_all (test a.rows a.entries.now a.e) a.n l.i l.m c.loop-i-test.false l.invariant.1

@@ -21,9 +21,11 @@ replaced true true false e o q h = ap (λ b. some (cond b o e)) q
 replaced true false l e o q h = refl
 
 pub returns-then-keep : goal.returns-then-keep
-returns-then-keep c = let a = c.args in
+returns-then-keep c =
+    let a = c.args in
     kept a.passes a.b.found c.less.result a.e a.b.entry c.less.ensures c.if-keep.true
 
 pub returns-else-keep : goal.returns-else-keep
-returns-else-keep c = let a = c.args in
+returns-else-keep c =
+    let a = c.args in
     replaced a.passes a.b.found c.less.result a.e a.b.entry c.less.ensures c.if-keep.false

@@ -19,7 +19,8 @@ unfolding has_row
 has_row_lem n f v t k p q s = p ∙ ap₂ (λ a b. a && valid n f v b) q s
 
 pub loop-i-init : goal.loop-i-init
-loop-i-init c = let a = c.args in
+loop-i-init c =
+    let a = c.args in
     (omega arith, packed_none (has_row a.n a.f a.v (table_of a.filled (votes_of a.cast a.verified a.entries.now a.masks.now a.views.now))) a.n a.n refl)
 
 -- One seat more, and it fits.
@@ -43,6 +44,7 @@ pub loop-i-preserved : goal.loop-i-preserved
 loop-i-preserved c = (omega arith, (next (goal.at.loop-i-preserved c).After-valid_if-t).0)
 
 pub returns : goal.returns
-returns c = let l = c.loop-i in
+returns c =
+    let l = c.loop-i in
     let a = c.args in
     packed_all (has_row a.n a.f a.v (table_of a.filled (votes_of a.cast a.verified a.entries.now a.masks.now a.views.now))) a.n l.i l.m c.loop-i-test.false l.invariant.1

@@ -24,7 +24,8 @@ pub loop-i-init : goal.loop-i-init
 loop-i-init c = let a = c.args in (omega arith, sym (smallest_none (backed a.rows a.entries.now a.n a.need) (entry_at a.entries.now)))
 
 pub loop-i-preserved : goal.loop-i-preserved
-loop-i-preserved c = let l = c.loop-i in
+loop-i-preserved c =
+    let l = c.loop-i in
     let a = c.args in
     let es = a.entries.now in
     let flag : (c.has-there.result && leb a.need c.backing_if-backing.result) ≡ backed a.rows es a.n a.need l.i =
@@ -36,7 +37,8 @@ loop-i-preserved c = let l = c.loop-i in
     )
 
 pub returns : goal.returns
-returns c = let l = c.loop-i in
+returns c =
+    let l = c.loop-i in
     let a = c.args in
     let all : l.i ≡ a.n = omega arith in
     l.invariant.1 ∙ ap (smallest (backed a.rows a.entries.now a.n a.need) (entry_at a.entries.now)) all

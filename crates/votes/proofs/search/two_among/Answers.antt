@@ -18,7 +18,8 @@ pub loop-j-init : goal.loop-j-init
 loop-j-init c = (c.search.invariant.0, λ k h l b. absurd (omega arith))
 
 pub loop-j-preserved : goal.loop-j-preserved
-loop-j-preserved c = let l = c.loop-j in
+loop-j-preserved c =
+    let l = c.loop-j in
     let a = c.args in
     let i = c.search.i in (
       l.invariant.0,
@@ -28,22 +29,26 @@ loop-j-preserved c = let l = c.loop-j in
     )
 
 pub search-preserved : goal.search-preserved
-search-preserved c = let a = c.args in
+search-preserved c =
+    let a = c.args in
     (c.search.invariant.0, below_next (λ k. bit a.rows k ≡ false) c.search.i c.search.invariant.1 (sym c.has.ensures ∙ c.if-has.false))
 
 pub returns-after-search : goal.returns-after-search
-returns-after-search c = let a = c.args in
+returns-after-search c =
+    let a = c.args in
     c.search.invariant.0
     ∙ two_no a.n (bit a.rows) (entry_at a.entries.now) (λ i j hi hj bi bj. true≢false (sym (true_is _ bi) ∙ c.search.invariant.1 i (omega arith)))
 
 pub returns-then-has-same : goal.returns-then-has-same
-returns-then-has-same c = let a = c.args in
+returns-then-has-same c =
+    let a = c.args in
     let t = but_not c.has-in-loop-j.result c.same.result c.if-has-same.true in
     two_yes a.n (bit a.rows) (entry_at a.entries.now) c.search.i c.loop-j.j (omega arith) (omega arith)
     (is_true _ (sym c.has.ensures ∙ c.if-has.true)) (is_true _ (sym c.has-in-loop-j.ensures ∙ t.0))
     (is_false _ (sym (c.same.ensures ∙ ap₂ same c.entry_at-a.ensures c.entry_at-b.ensures) ∙ t.1))
 
 pub returns-after-loop-j : goal.returns-after-loop-j
-returns-after-loop-j c = let a = c.args in
+returns-after-loop-j c =
+    let a = c.args in
     c.loop-j.invariant.0
     ∙ two_one a.n (bit a.rows) (entry_at a.entries.now) c.search.i c.search.invariant.1 (λ k h l b. c.loop-j.invariant.1 k (omega arith) l b)

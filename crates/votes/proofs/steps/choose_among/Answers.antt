@@ -32,12 +32,14 @@ allowed c = let a = c.args in (call_taken a.n a.f a.v (number_0 c)).0
 
 pub returns-then-number-ne0 : goal.returns-then-number-ne0
 unfolding chosen
-returns-then-number-ne0 c = let e = c.call_number-number.ensures in
+returns-then-number-ne0 c =
+    let e = c.call_number-number.ensures in
     ap Selected.Refused e ∙ answered_refused _ _ (λ z. c.if-number-ne0.true (e ∙ z))
 
 pub returns-then-seats_in-quorum : goal.returns-then-seats_in-quorum
 unfolding chosen has_row
-returns-then-seats_in-quorum c = let n = c.args.n in
+returns-then-seats_in-quorum c =
+    let n = c.args.n in
     let few : seats_in (bit_and c.below.result c.args.filled) < n - c.args.f = omega (arith, c.quorum.ensures, c.seats_in.ensures, c.if-seats_in-quorum.true) in
     ap Selected.Chosen
     (waits_few n c.args.f (has (goal.at.returns-then-seats_in-quorum c).Start) (vote (goal.at.returns-then-seats_in-quorum c).Start) (allowed (goal.at.returns-then-seats_in-quorum c).Else-number-ne0).most (bit_and c.below.result c.args.filled) (bit c.args.filled)
@@ -48,12 +50,14 @@ pub present-rows-requires : goal.present-rows-requires
 present-rows-requires c = (allowed (goal.at.present-rows-requires c).Else-number-ne0).most
 
 pub five_steps-requires : goal.five_steps-requires
-five_steps-requires c = let a = allowed (goal.at.five_steps-requires c).Else-number-ne0 in
+five_steps-requires c =
+    let a = allowed (goal.at.five_steps-requires c).Else-number-ne0 in
     (omega (arith, a.least), a.most, (marks_of c.args.n c.present-rows.result (has (goal.at.five_steps-requires c).Start) c.present-rows.ensures).below)
 
 pub returns : goal.returns
 unfolding chosen vote_at
-returns c = let rows = marks_of c.args.n c.present-rows.result (has (goal.at.returns c).Start) c.present-rows.ensures in
+returns c =
+    let rows = marks_of c.args.n c.present-rows.result (has (goal.at.returns c).Start) c.present-rows.ensures in
     ap Selected.Chosen
     (c.five_steps.ensures
     ∙ selection_ext c.args.n c.args.f (bit c.present-rows.result) (has (goal.at.returns c).Start) (vote_at (bare_votes c.args.cast c.args.entries.now c.args.views.now)) (vote (goal.at.returns c).Start) rows.at

@@ -79,7 +79,8 @@ others c =
     (these (goal.at.After-without-others c).Start) liar.below liar.at c.without-others.ensures
 
 pub returns-then-seats_in-quorum : goal.returns-then-seats_in-quorum
-returns-then-seats_in-quorum c = let few : seats_in c.args.rows < c.args.n - c.args.f = omega (arith, c.quorum-quorum.ensures, c.seats_in.ensures, c.if-seats_in-quorum.true) in
+returns-then-seats_in-quorum c =
+    let few : seats_in c.args.rows < c.args.n - c.args.f = omega (arith, c.quorum-quorum.ensures, c.seats_in.ensures, c.if-seats_in-quorum.true) in
     waits_few c.args.n c.args.f (bit c.args.rows) (vote (goal.at.returns-then-seats_in-quorum c).Start) c.requires.1 c.args.rows (bit c.args.rows) (these (goal.at.returns-then-seats_in-quorum c).Start) (λ k t. t) few
 
 pub returns-then-votes-eq0 : goal.returns-then-votes-eq0
@@ -96,13 +97,15 @@ returns-then-not-two_among c = ap Choice.Forced c.entry_at.ensures
 
 pub returns-then-seats_in-quorum-2 : goal.returns-then-seats_in-quorum-2
 unfolding vote_at topped
-returns-then-seats_in-quorum-2 c = let few : seats_in c.without-others.result < c.args.n - c.args.f = omega (arith, c.quorum-quorum.ensures, c.seats_in-2.ensures, c.if-seats_in-quorum-2.true) in
+returns-then-seats_in-quorum-2 c =
+    let few : seats_in c.without-others.result < c.args.n - c.args.f = omega (arith, c.quorum-quorum.ensures, c.seats_in-2.ensures, c.if-seats_in-quorum-2.true) in
     waits_others c.args.n c.args.f (bit c.args.rows) (vote (goal.at.returns-then-seats_in-quorum-2 c).Start) c.requires.1 (topped (goal.at.returns-then-seats_in-quorum-2 c).After-at_view-top) c.two_among.result c.two_among.ensures (not-false _ (ap not c.if-not-two_among.false))
     c.without-others.result (others (goal.at.returns-then-seats_in-quorum-2 c).After-without-others) few
 
 pub returns : goal.returns
 unfolding vote_at topped
-returns c = let n = c.args.n in
+returns c =
+    let n = c.args.n in
     let w = c.top_view-w.result in
     let enough : n - c.args.f ≤ seats_in c.without-others.result = omega (arith, c.quorum-quorum.ensures, c.seats_in-2.ensures, c.if-seats_in-quorum-2.false) in
     let liar = liar_marks (goal.at.returns c).After-without-others in
