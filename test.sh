@@ -1,5 +1,5 @@
 #!/usr/bin/env bash
-# Every test: the layout of the sources, that each public function is held to one answer; the proofs from nothing and the programs; contracts, rules
+# Every test: the proofs and the programs, and the layout of the sources (rt ci); that each public function is held to one answer; contracts, rules
 # and functions broken on purpose, which must be refused; then `trace` and the library beside the second program.
 # Ends with 'N passed, 0 failed' where all is well, and with another line and a status that is not 0 where not.
 set -u
@@ -27,22 +27,22 @@ log=$(mktemp) || fail 'no temporary file can be made' 2
 trap 'rm -f "$log"' EXIT
 passed=0
 
-echo '== layout (rt fmt --check)'
-rt fmt --check || fail 'the files named above are not in the layout of rt fmt: run rt fmt'
-
-echo '== contracts: every public function stands in proofs/Contracts.antt (tools/contracts.sh)'
-counted 'public functions held to one answer' contracts.sh
-held=$passed
-
-echo '== seats: a view becomes one by the leader rule alone (tools/seats-made.txt)'
-grep -rE '\bSeat\(' crates/*/src --include='*.rt' | sed 's/:  */: /' | LC_ALL=C sort | diff tools/seats-made.txt - || fail 'a seat is made in a new place (>): if not from a view, add it to tools/seats-made.txt'
-
-echo '== proofs, programs (rt ci)'
+echo '== proofs, programs, layout (rt ci)'
 rt ci 2>&1 | tee "$log"
 [ "${PIPESTATUS[0]}" -eq 0 ] || fail 'rt ci failed: what it printed above says where'
 passed=$(sed -n '$s/^\([0-9][0-9]*\) passed, 0 failed$/\1/p' "$log")
 [ -n "$passed" ] || fail 'rt ci did not end with its line of tests passed'
-passed=$((passed + held))
+grep -q '^rt: ok' "$log" || fail 'rt ci did not say rt: ok'
+! grep -Eq '^rt: ok.*, [1-9][0-9]* bad' "$log" || fail 'rt ci: an edit of must-fail/ is bad, as told above'
+
+echo '== what the tools begin with: each crate as rt check proves it (rt all check)'
+rt all check >"$log" 2>&1 || { tail -n 60 "$log"; fail 'rt all check failed: see above'; }
+
+echo '== contracts: every public function stands in proofs/Contracts.antt (tools/contracts.sh)'
+counted 'public functions held to one answer' contracts.sh
+
+echo '== seats: a view becomes one by the leader rule alone (tools/seats-made.txt)'
+grep -rE '\bSeat\(' crates/*/src --include='*.rt' | sed 's/:  */: /' | LC_ALL=C sort | diff tools/seats-made.txt - || fail 'a seat is made in a new place (>): if not from a view, add it to tools/seats-made.txt'
 
 echo '== contracts that say too little, functions left out (tools/hollow-contracts.txt, tools/contracts.sh)'
 counted 'hollow contracts refused' contracts.sh trials
@@ -64,16 +64,17 @@ cargo build --release --offline --quiet --manifest-path second/Cargo.toml || fai
 second=second/target/release/second
 
 echo '== examples and edges, by trace and by the second program (second/cases)'
-"$second" cases second/cases --trace target/bin/trace || fail 'a case differs: see above'
+"$second" cases second/cases --trace crates/trace/out/trace || fail 'a case differs: see above'
 
 echo '== no input, no output, noise, a line of 100 MB (tools/odd-inputs.sh)'
-bash tools/odd-inputs.sh target/bin/trace "$second" || fail 'trace does something else on an odd input: see above'
+bash tools/odd-inputs.sh crates/trace/out/trace "$second" || fail 'trace does something else on an odd input: see above'
 
 echo '== random runs, by trace and by the second program'
-"$second" runs --trace target/bin/trace || fail 'a random run differs, or a cell was not reached: see above'
+"$second" runs --trace crates/trace/out/trace || fail 'a random run differs, or a cell was not reached: see above'
 
-echo '== the library for C and Rust, beside the second program (crates/station, second/library)'
-rt staticlib station >"$log" 2>&1 || { cat "$log"; fail 'rt staticlib station failed: see above'; }
+echo '== the library for C and Rust, beside the second program (crates/station_c, second/library)'
+(cd crates/station_c && rt lib) >"$log" 2>&1 || { cat "$log"; fail 'rt lib of station_c failed: see above'; }
+mkdir -p target/staticlib && cp crates/station_c/out/libstation_c.a target/staticlib/libstation.a || fail 'crates/station_c/out/libstation_c.a is not there'
 STATION_DIR=$PWD/target/staticlib cargo build --release --offline --quiet --manifest-path second/library/Cargo.toml || fail 'second/library cannot be built'
 second/library/target/release/library || fail 'the library differs, or a cell was not reached: see above'
 

@@ -62,7 +62,7 @@ function log_of() {
 
 # One open block of each function is applied to a copy of the sources as they are.
 function break_some(    b, seen, many) {
-    system("rm -rf '" to "' && mkdir '" to "' && cd '" from "' && cp -R src specs proofs '" to "'")
+    system("rm -rf '" to "' && mkdir '" to "' && cd '" from "' && cp -R `ls | grep -xE \"src|specs|proofs\"` '" to "'")
     for (b = 1; b <= blocks; b += 1) {
         applied[b] = 0
         if (open[b] && !((of[b]) in seen)) {
@@ -86,6 +86,8 @@ function change(b,    path, text, line, at, head, parts, n) {
     while (substr(text, at, 1) !~ /[(<]/)
     at = behind(text, at, old[b], b)
     head = substr(text, 1, at - length(old[b]) - 1)
+    n = split(head old[b], parts, "\n")
+    if (parts[n] ~ /^ *(requires|ensures)/) stop(of[b] name[b] ": the first '" old[b] "' stands in its contract")
     printf "%s%s%s", head, new[b], substr(text, at) > path
     close(path)
     if (renamed[b] != "") respell(b)
@@ -107,11 +109,12 @@ function respell(b,    list, path, text, line, words, n, k) {
     close(list)
 }
 
-# `word` stands in a name between dashes and the ends of the name.
-function respelled(text, word, by,    out, at, after) {
+# `word` stands in a name behind a dash, or begins it where it has a dash itself, and ends before a dash or with the name.
+function respelled(text, word, by,    out, at, before, after) {
     while ((at = index(text, word)) > 0) {
+        before = at > 1 ? substr(text, at - 1, 1) : substr(out, length(out))
         after = substr(text, at + length(word), 1)
-        out = out substr(text, 1, at - 1) (substr(text, at - 1, 1) == "-" && after !~ /[A-Za-z0-9_]/ ? by : word)
+        out = out substr(text, 1, at - 1) ((before == "-" || word ~ /-/ && before !~ /[A-Za-z0-9_]/) && after !~ /[A-Za-z0-9_]/ ? by : word)
         text = substr(text, at + length(word))
     }
     return out text

@@ -12,9 +12,9 @@ mkdir -p "$here/outside/src"
 
 # Checks the crate with this line.
 outside() { # LINE
-    printf '%s\n' 'use transcript::State;' 'pub fn changed(state: State, other: State) -> State {' \
+    printf '%s\n' 'use transcript::State;' '' 'pub fn changed(state: State, other: State) -> State {' \
         '    let mut next = state;' "    $1" '    next' '}' >"$here/outside/src/lib.rt"
-    rt check "$here/outside" --extern "transcript=$PWD/target/rlib/transcript.rlib" -L "dependency=$PWD/target/rlib" >"$here/said" 2>&1
+    BELOW=transcript bash tools/prover.sh outside "$here/outside" "$here/kept" >"$here/said" 2>&1
 }
 
 fail() {

@@ -2,8 +2,8 @@
 # Has the prover check a copy of one crate, over the libraries below it as `rt ci` or `rt check` built them in crates/*/out.
 #   bash tools/prover.sh NAME FOLDER KEPT [FROM]
 # FOLDER holds the copy's src/, specs/ and proofs/. KEPT is where the prover keeps what it proved: with no such folder yet, it begins with what
-# is in FROM, or what `rt check` of the crate kept. Prints what the prover says and ends with its status: 0 proved, 1 not, another where it has
-# no verdict.
+# is in FROM, or what `rt check` of the crate kept. It stands on the crates that crates.txt names, or that BELOW does. Prints what the prover
+# says and ends with its status: 0 proved, 1 not, another where it has no verdict.
 set -u
 cd "$(dirname "$0")/.." || exit 2
 name=$1 folder=$2 kept=$3 from=${4:-crates/$1/out/incremental}
@@ -16,7 +16,7 @@ if [ ! -d "$kept" ] && [ -d "$from" ]; then
 fi
 
 set -- --crate-name "$name" --extern "std=$kit/rlibs/std.rlib" -L "dependency=$kit/rlibs"
-for below in $(sed -n "s/^$name\( [^:]*\)\{0,1\}: *//p" crates.txt); do
+for below in ${BELOW:-$(sed -n "s/^$name\( [^:]*\)\{0,1\}: *//p" crates.txt)}; do
     if [ -d "crates/$below" ]; then set -- "$@" --extern "$below=$PWD/crates/$below/out/rlib/$below.rlib"; else set -- "$@" --extern "$below=$kit/rlibs/$below.rlib"; fi
 done
 for other in $(bash tools/listed.sh libraries); do set -- "$@" -L "dependency=$PWD/crates/$other/out/rlib"; done
