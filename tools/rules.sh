@@ -1,6 +1,6 @@
 #!/usr/bin/env bash
 # Makes rules wrong, one at a time, and has a law or theorem refuse each: crates/NAME/rules.txt says how.
-#   bash tools/rules.sh [NAME...]     of these crates; else of all libraries
+#   bash tools/rules.sh [NAME...]     of these crates; else of all libraries that have specs/
 # A rule is tried over the crate's types and specs alone: no code is in the way, so what refuses it is a theorem, and it takes seconds.
 # The crates must be proved (rt check). Ends with the number refused, and with a status that is not 0 where one was not.
 set -u
@@ -81,7 +81,7 @@ over() {
     running=0
 }
 
-[ $# -gt 0 ] || set -- $(bash tools/listed.sh libraries)
+[ $# -gt 0 ] || set -- $(bash tools/listed.sh specified)
 for crate in "$@"; do
     grep -qs '^name: ' "crates/$crate/rules.txt" || { echo "$crate: there is no rule in crates/$crate/rules.txt"; exit 2; }
     for below in $(sed -n "s/^$crate: *//p" crates.txt); do
