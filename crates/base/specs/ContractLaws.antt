@@ -82,7 +82,7 @@ module _ (w : World) (T : Ended) (contract : Contract w T) (answer : (κs : Lfts
   OneAnswer c = (g : c.ghost) (r : Res T.signature κs) → ent w.𝓤 (c.ensures g r)
       (sep w.𝓤 (sem w.𝓛 (lasts T κs a lasts_left)) (fact w.𝓤 (IsReturned (answer κs a).0 r)))
 
-  pub one_answer : Exact w T contract answer → OneAnswer (contract w.𝓛 w.𝓜.mem w.𝓡.run κs a)
+  pub one_answer : Exact w T contract answer → OneAnswer (contract w.𝓛 w.𝓜.mem w.𝓡.returns κs a)
   one_answer exact = subst OneAnswer (sym (exact κs a)) (λ g r. ex_e w.𝓤 _ (λ ws. given r ws))
     where
       last : Lasts T κs a → SProp w.𝓤

@@ -96,7 +96,7 @@ module _ (w : World) where
   abbrev pub Exact : (T : Ended) → Contract T → ((κs : Lfts T.signature.lifetimes) (a : Args T.signature κs) → Promised T κs a) → Type 2
   Exact T contract answer =
       (κs : Lfts T.signature.lifetimes) (a : Args T.signature κs)
-      → contract w.𝓛 w.𝓜.mem w.𝓡.run κs a
+      → contract w.𝓛 w.𝓜.mem w.𝓡.returns κs a
       ≡ record {
         ghost = Unit {0};
         requires = λ g. emp w.𝓤;
