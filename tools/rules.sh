@@ -37,13 +37,14 @@ bare() { # NAME COPY
     done
     number=0
     for law in $(sed -n 's/^falls: //p' "crates/$1/rules.txt" | tr ' ' '\n' | sort -u); do
-        for file in $(grep -rlE "^ *pub $law : " "$2/specs"); do witness "$1" "$2" "$law" "$file"; done
+        for file in $(grep -rlE "^ *(pub )?$law : " "$2/specs"); do witness "$1" "$2" "$law" "$file"; done
     done
 }
 
-# A file of its own that cites a public law: the prover names only a few of those that cite what is not proved, but one of each file.
+# A file of its own that cites the law: where a law falls the prover names only a few of those that cite it, but one of each file.
 witness() { # NAME COPY LAW FILE
     number=$((number + 1))
+    sed -i "s/^\( *\)$3 : /\1pub $3 : /" "$4"
     module=${4#"$2/specs/"}
     module=${module%.antt}
     printf 'use Rattle.%s.specs.%s.{%s}\n\nfalls_%s : Unit {0}\nfalls_%s = search %s\n' "$1" "${module//\//.}" "$3" "$3" "$3" "$3" >"$2/specs/Falls$number.antt"
