@@ -7,6 +7,7 @@
 #   file: , old: , new:    a change: `old`, which stands once in that file of specs/, becomes `new`. A file holds for the pairs behind it
 #   refused:  a file of specs/ and a law in it that refuses the rule: there an error must stand that is the law's own. One or more lines
 #   falls:    laws and theorems that are then not proved either, by themselves or because they cite one that is not
+#   long:     why the prover takes minutes: it is begun before the others
 # An error is a law's own where the prover misses a fact in its proof. The first error of all must be of this kind too: where an edit has a
 # name that nobody knows, or does not fit its type, the prover says that first.
 
@@ -18,6 +19,7 @@ blocks == 0 { stop("line " NR ": there is no line 'name: ' before it") }
 /^old: ./ { old = substr($0, 6); next }
 /^new: / { pair(substr($0, 6)); next }
 /^refused: [^ ]+ [^ ]+$/ { laws[blocks] += 1; law[blocks, laws[blocks]] = $2 " " $3; next }
+/^long: ./ { next }
 /^falls: ./ { falls[blocks] = substr($0, 8); next }
 { stop("line " NR " is none that a block can have: " $0) }
 

@@ -82,6 +82,16 @@ over() {
     running=0
 }
 
+# CRATE:BLOCK of each block, first those that take long.
+blocks() { # NAME...
+    for crate in "$@"; do
+        awk -v crate="$crate" '
+            /^name: / { name[++count] = substr($0, 7) }
+            /^long: / { long[count] = 1 }
+            END { for (b = 1; b <= count; b += 1) print 1 - long[b], crate ":" name[b] }' "crates/$crate/rules.txt"
+    done | sort -s -n -k 1,1 | sed 's/^. //'
+}
+
 [ $# -gt 0 ] || set -- $(bash tools/listed.sh specified)
 for crate in "$@"; do
     grep -qs '^name: ' "crates/$crate/rules.txt" || { echo "$crate: there is no rule in crates/$crate/rules.txt"; exit 2; }
@@ -95,9 +105,7 @@ for crate in "$@"; do beside one "$crate"; done
 over
 for crate in "$@"; do grep -q "^$crate unchanged 0 " "$copies/done" || exit 2; done
 
-for crate in "$@"; do
-    for block in $(sed -n 's/^name: //p' "crates/$crate/rules.txt"); do beside one "$crate" "$block"; done
-done
+for block in $(blocks "$@"); do beside one "${block%%:*}" "${block#*:}"; done
 over
 
 bad=0
