@@ -149,7 +149,7 @@ function judge(    line, path, said, missed, noted, errors, steps, b, many, f, a
         if (line ~ /^fn /) {
             f = substr(line, 4, index(line, ": ") - 4)
             said[f] = substr(line, index(line, ": ") + 2)
-            missed[f] = noted || said[f] ~ /did not prove|^could not tell/
+            missed[f] = noted || said[f] ~ /did not prove/
             noted = 0
             found[f] = 1
         }
