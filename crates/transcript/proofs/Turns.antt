@@ -4,13 +4,13 @@ use mathlib.Core.Path.{◌≡◌, refl, sym, ap, ap₂, ◌∙◌}
 use mathlib.Core.Bool.{Bool, true, false, ◌&&◌, cond}
 use mathlib.Core.List.{List, [], ◌∷◌, ◌++◌, append-nil, append_assoc}
 use native.Mathlib.Omega.{arith}
-use native.Mathlib.Nat.{add-zero, zero-add, sub-zero, add_assoc}
+use native.Mathlib.Nat.{add-zero, zero-add, add_assoc}
 use lib.Dec.{leb}
 use lib.ListN.{length, drop, take}
 use lib.Seq.{sets-eq}
 use borrow.Author.Tests.{le-leb, lt-leb}
 use Rattle.text.specs.Put.{Puts}
-use Rattle.text.specs.PutLaws.{puts_nothing, put_then}
+use Rattle.text.specs.PutLaws.{put_then}
 use Rattle.messages.specs.Writer.{lent}
 use Rattle.transcript.specs.declared.State.{State}
 use Rattle.transcript.specs.declared.feed.Fed.{Fed}
@@ -67,19 +67,6 @@ abbrev pub Comes : State → List ℕ → List ℕ → State → ℕ → ℕ →
 Comes st₀ s out₀ st at put out =
     (◌≡◌ {A = Fed} (record { used = at; put = put; state = st }) (fed_of (ran st₀ (lines_of s) (length out₀))))
     × (out ≡ lent out₀ (ran st₀ (lines_of s) (length out₀)).text)
-
-pub going_first : (st : State) (s out : List ℕ) → Going st s out st 0 0 out
-going_first st s out =
-    let r = ran st (lines_of s) (length out) in
-    record {
-      text = [];
-      all =
-          ap (λ (k : ℕ). record { state = r.state; used = k; text = r.text }) (sym (zero-add r.used))
-          ∙ ap (λ (k : ℕ). behind 0 [] (ran st (lines_of s) k)) (sym (sub-zero (length out)));
-      puts = puts_nothing out 0;
-      fits = omega arith;
-      inside = omega arith;
-    }
 
 module _ {st₀ : State} {s out₀ : List ℕ} {st : State} {at put : ℕ} {out : List ℕ} (g : Going st₀ s out₀ st at put out) where
   -- The line that is there, and the text that is put for it.
