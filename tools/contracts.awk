@@ -8,7 +8,7 @@ function wrong(why) {
     failed = 1
 }
 
-# ---- proofs/Contracts.antt: imports, one module, and of each function a statement with nothing before it, proved by refl
+# ---- proofs/Contracts.antt: imports, one module, and of each function a statement with nothing before it, or with its types, proved by refl
 
 # The names that give a statement its meaning come from where they should, and from nowhere else.
 function imported(line,    names, own) {
@@ -20,6 +20,8 @@ function imported(line,    names, own) {
     else if (line ~ / as /) wrong("brings in a module under another name: " line)
     if (names ~ / World /) { if (line ~ /^use borrow\.Fn\.World\./) world += 1; else wrong("World is not the kit's: " line) }
     if (names ~ / Exact /) { if (line ~ laws) exact += 1; else wrong("Exact is not that of base: " line) }
+    if (names ~ / ExactOf / && line !~ laws) wrong("ExactOf is not that of base: " line)
+    if (names ~ / ExactOver / && line !~ laws) wrong("ExactOver is not that of base: " line)
     if (names ~ / (gives|gives_and|shows|becomes|value|part|nothing) / && line !~ laws) wrong("an answer is not said in the words of base: " line)
     if (names ~ / refl / && line !~ /^use (mathlib\.Core\.Path|Rattle\.std\.specs\.Prelude)\./) wrong("refl is not the kit's: " line)
 }
@@ -30,12 +32,34 @@ function statement(line,    words, path) {
     if (path !~ /^fn\.[A-Za-z_0-9.]+\.ended$/) { wrong("says nothing of a function: " line); return }
     path = substr(path, 4, length(path) - 9)
     if (words[7] != "fn." path ".spec") wrong("speaks of two functions: " line)
+    begun(path, words[2] " κs a", "Exact w fn." path ".ended fn." path ".spec ", substr(line, index(line, " : ") + 3))
+}
+
+# Of a function for every type: every type T, and whatever else the toolchain has of it, is bound first and passed on as it is. `ExactOver w T 64`
+# is of one that is lent an array of 64.
+function statement_of(line,    words, path, names, body, of, k) {
+    split(line, words, " ")
+    body = line
+    sub(/^.*_\) → /, "", body)
+    for (k = 4; words[k] ~ /^\(/; k += 3) {
+        if (index(names " ", " " substr(words[k], 2) " ")) wrong("binds a name twice: " line)
+        names = names " " substr(words[k], 2)
+    }
+    of = words[k + 1] " " words[k + 2] " " words[k + 3]
+    if (words[k + 1] == "ExactOver") of = of " " words[(k += 1) + 3]
+    path = words[k + 4]
+    if (path !~ /^\(fn\.[A-Za-z_0-9.]+\.ended$/) { wrong("says nothing of a function: " line); return }
+    path = substr(path, 5, length(path) - 10)
+    begun(path, words[2] names " κs a", of " (fn." path ".ended" names ") (fn." path ".spec" names ") ", body)
+}
+
+function begun(path, left, of, text) {
     if (said[path] != "") wrong("says twice what " path " answers")
     said[path] = FNR
     if (proof != "") wrong("the statement before has no proof")
-    proof = "  " words[2] " κs a = refl"
-    said_of = "Exact w fn." path ".ended fn." path ".spec "
-    whole = substr(line, index(line, " : ") + 3)
+    proof = "  " left " = refl"
+    said_of = of
+    whole = text
 }
 
 # The answer is one term in brackets, and nothing follows it: a statement with an arrow behind would say nothing.
@@ -58,6 +82,7 @@ function stated(line) {
     if (line ~ /^use [^ ]+(\.\{[^{}]*\}| as fn)$/) imported(line)
     else if (line == "module _ (w : World) where") opened += 1
     else if (line ~ /^  pub [a-z0-9_]+_says : Exact w fn\./) statement(line)
+    else if (line ~ /^  pub [a-z0-9_]+_says : \(T : _\)( \([A-Zd] : _\))* → Exact(Of w T|Over w T [0-9]+) \(fn\./) statement_of(line)
     else if (line ~ /^      [^ ]/ && proof != "") whole = whole substr(line, 6)
     else if (line == proof) {
         if (index(whole " ", said_of) != 1 || !one_term(substr(whole, length(said_of) + 1))) wrong("says more than an answer: " whole)

@@ -9,11 +9,11 @@ copies=$(mktemp -d) || exit 2
 trap 'rm -rf "$copies"' EXIT
 mkdir -p target/log
 
-# The types of a source file, without its functions and what only they use. A file is in the layout of rt fmt: an item begins where a line
-# begins with a letter, and goes on until the next one does. Of what is used, types and constants have a capital letter.
+# The types of a source file with what they derive, without its functions and what only they use. A file is in the layout of rt fmt: an item
+# begins where a line begins with a letter, and goes on until the next one does. Of what is used, types and constants have a capital letter.
 types_of() {
     awk '
-        /^[a-z#\/]/ { keep = /^(pub(\([a-z]*\))? )?(mod|struct|enum|const|type) /; used = /^use /; named = "" }
+        /^[a-z#\/]/ { keep = /^(pub(\([a-z]*\))? )?(mod|struct|enum|const|type) |^#\[derive\(/; used = /^use /; named = "" }
         used { named = named " " $0 }
         used && /;$/ { used = 0; brought(named) }
         keep

@@ -50,12 +50,12 @@ no_blocks() {
 }
 
 no_block() {
-    awk '/^fn: base::pick_flag/ { skip = 1 } /^$/ { skip = 0 } !skip' crates/base/broken.txt >"$copy/crates/base/broken.txt"
-    refuses 'a function without a block' 'base::pick_flag has no block' broken.sh
+    awk '/^fn: base::pick/ { skip = 1 } /^$/ { skip = 0 } !skip' crates/base/broken.txt >"$copy/crates/base/broken.txt"
+    refuses 'a function without a block' 'base::pick has no block' broken.sh
 }
 
 left_open() {
-    printf '\nopen: base::pick_flag: for no reason\n' >>"$copy/crates/base/broken.txt"
+    printf '\nopen: base::pick: for no reason\n' >>"$copy/crates/base/broken.txt"
     refuses 'a function of a library left open' 'only a function of a program' broken.sh
 }
 

@@ -1,10 +1,11 @@
 -- 01: "one acknowledgement row per seat", who shares one, and the margin.
-use Rattle.std.specs.Prelude.{ℕ, Bool, not, ◌&&◌, cond, List, eqb, ltb, get_or, set, replicate, ℤ, pos, ◌-ℤ◌}
+use Rattle.std.specs.Prelude.{ℕ, Bool, not, ◌&&◌, cond, List, eqb, replicate, ℤ, pos, ◌-ℤ◌}
 use Rattle.entry.specs.Entry.{same, zero_entry}
 use Rattle.entry.specs.Table.{table_seats, table_words, entry_at, with_entry}
 use Rattle.seats.specs.Seats.{count, highest}
 use Rattle.seats.specs.Sizes.{quorum}
 use Rattle.seats.specs.Mask.{mask}
+use Rattle.seats.specs.Table.{value_at, with_value}
 use Rattle.acks.specs.declared.AckRow.{AckRow}
 use Rattle.acks.specs.declared.Acks.{Acks}
 
@@ -19,20 +20,13 @@ no_acks = acks_of (replicate table_words 0) (replicate table_seats 0)
 abbrev pub empty_row : AckRow
 empty_row = record { view = record { 0 = 0 }; entry = zero_entry }
 
--- View k of 64, and the views with v as view k; past the 64th 0, and nothing changes.
-unfoldable pub view_at : List ℕ → ℕ → ℕ
-view_at vs k = cond (ltb k table_seats) (get_or vs k 0) 0
-
-unfoldable pub with_view : List ℕ → ℕ → ℕ → List ℕ
-with_view vs k v = cond (ltb k table_seats) (set vs k v) vs
-
 -- Seat k's row; past the 64th the empty one.
 unfoldable pub row_of : Acks → ℕ → AckRow
-row_of t k = record { view = record { 0 = view_at t.views k }; entry = entry_at t.entries k }
+row_of t k = record { view = record { 0 = value_at t.views k 0 }; entry = entry_at t.entries k }
 
 -- The table with seat k's row written; past the 64th nothing changes.
 unfoldable pub with_row : Acks → ℕ → AckRow → Acks
-with_row t k r = acks_of (with_entry t.entries k r.entry) (with_view t.views k r.view.0)
+with_row t k r = acks_of (with_entry t.entries k r.entry) (with_value t.views k r.view.0)
 
 abbrev pub is_filled : AckRow → Bool
 is_filled r = not (eqb r.view.0 0)

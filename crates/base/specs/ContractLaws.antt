@@ -1,19 +1,23 @@
 -- A contract that is exact leaves one answer: `one_answer`, for every signature at once.
-use Rattle.std.specs.Prelude.{ℕ, ◌≡◌, refl, List, [], ◌∷◌, ◌++◌}
+use Rattle.std.specs.Prelude.{ℕ, ◌<◌, ◌^◌, ◌≡◌, refl, List, [], ◌∷◌, ◌++◌}
 use Rattle.std.proofs.Common.{sym, subst, ap₂}
-use base.Logic.{SProp, ent, sep, ex_e, id⊢, mono∗, snd∗}
+use base.Logic.{SProp, emp, ent, sep, ex_e, id⊢, mono∗, snd∗}
 use Rattle.std.specs.Borrow.{sem}
 use contract.Monad.{fact, fact_i, fact_use}
 use contract.Lifetimes.{Lfts}
+use contract.BorrowLft.{◌⊑◌}
 use denote.Exit.{Exit, Last, unchanged, leaves}
-use denote.RattleType.{Denots}
+use denote.RattleType.{RattleType, Denots}
+use denote.Param.{layout, copied}
+use denote.Array.{Array}
+use prog.Memory.{size}
 use denote.Signature.{Slot, types_at}
 use denote.Triple.Clauses.{Ended, Lasts, lasts}
 use denote.Triple.End.{Kepts, Fins}
 use denote.Triple.Entry.{Args, Res}
 use denote.Triple.Spec.{SpecAt}
 use borrow.Fn.World.{World}
-use Rattle.base.specs.ExactContracts.{Returned, value, part, nothing, returned_is, LastValue, LastValues, last_is, lasts_are, every, Promised, Gave, Contract, Exact}
+use Rattle.base.specs.ExactContracts.{Returned, value, part, nothing, returned_is, LastValue, LastValues, last_is, lasts_are, every, Promised, Gave, Contract, Says, Exact, ExactOf, ExactOver, of_call}
 
 first_fact : (p : Type 0) (ps : List (Type 0)) → every (p ∷ ps) → p × every ps
 first_fact p [] h = (h, tt)
@@ -82,8 +86,8 @@ module _ (w : World) (T : Ended) (contract : Contract w T) (answer : (κs : Lfts
   OneAnswer c = (g : c.ghost) (r : Res T.signature κs) → ent w.𝓤 (c.ensures g r)
       (sep w.𝓤 (sem w.𝓛 (lasts T κs a lasts_left)) (fact w.𝓤 (IsReturned (answer κs a).0 r)))
 
-  pub one_answer : Exact w T contract answer → OneAnswer (contract w.𝓛 w.𝓜.mem w.𝓡.returns κs a)
-  one_answer exact = subst OneAnswer (sym (exact κs a)) (λ g r. ex_e w.𝓤 _ (λ ws. given r ws))
+  pub one_answer_of : (asked : Lfts T.signature.lifetimes → SProp w.𝓤) → Says w T contract asked answer → OneAnswer (contract w.𝓛 w.𝓜.mem w.𝓡.returns κs a)
+  one_answer_of asked exact = subst OneAnswer (sym (exact κs a)) (λ g r. ex_e w.𝓤 _ (λ ws. given r ws))
     where
       last : Lasts T κs a → SProp w.𝓤
       last ws = sem w.𝓛 (lasts T κs a ws)
@@ -98,3 +102,17 @@ module _ (w : World) (T : Ended) (contract : Contract w T) (answer : (κs : Lfts
           mono∗ w.𝓤
           (subst (λ v. ent w.𝓤 (last ws) (last v)) (lasts_are_lem κs T.signature.params T.kept a (answer κs a).1 ws z.1) (id⊢ w.𝓤 (last ws)))
           (fact_i w.𝓤 q (fact w.𝓤 p) z.0))
+
+  pub one_answer : Exact w T contract answer → OneAnswer (contract w.𝓛 w.𝓜.mem w.𝓡.returns κs a)
+  one_answer exact = one_answer_of (λ κs. emp w.𝓤) exact
+
+  -- The same of a function for every type.
+  pub one_answer_any : (X : RattleType) → ExactOf w X T contract answer → OneAnswer (contract w.𝓛 w.𝓜.mem w.𝓡.returns κs a)
+  one_answer_any X exact = one_answer_of (λ κs. sep w.𝓤 (fact w.𝓤 (of_call T.signature.lifetimes κs ⊑ X.lives)) (emp w.𝓤)) exact
+
+  pub one_answer_over : (X : RattleType) (n : ℕ) → ExactOver w X n T contract answer → OneAnswer (contract w.𝓛 w.𝓜.mem w.𝓡.returns κs a)
+  one_answer_over X n exact = one_answer_of
+      (λ κs.
+      sep w.𝓤 (fact w.𝓤 (of_call T.signature.lifetimes κs ⊑ X.lives))
+      (sep w.𝓤 (fact w.𝓤 (size (layout (Array (copied 0 X) n)) < 2 ^ 63)) (emp w.𝓤)))
+      exact

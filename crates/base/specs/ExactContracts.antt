@@ -1,15 +1,19 @@
 -- 01: "its contract leaves one possible answer for each input, refusals included, with each byte of lent memory afterwards". Here is what
 -- it means that a contract, as the toolchain holds it, asks nothing and says the answer. `proofs/Contracts.antt` of each library says it of
 -- every public function; that such a contract leaves one answer is `one_answer` in ContractLaws.antt.
-use Rattle.std.specs.Prelude.{ℕ, ◌≡◌, List, [], ◌∷◌, ◌++◌}
+use Rattle.std.specs.Prelude.{ℕ, zero, suc, ◌<◌, ◌^◌, ◌≡◌, List, [], ◌∷◌, ◌++◌}
 use base.Logic.{SProp, emp, ex, sep}
-use prog.Memory.{Memory}
+use base.Fml.{Lft}
+use prog.Memory.{Memory, size}
 use prog.Routine.{Routine}
 use types.Logic.{Logic, sem}
 use contract.Monad.{Fun, fact}
 use contract.Lifetimes.{Lfts}
+use contract.BorrowLft.{◌⊑◌}
 use denote.Exit.{Exit, Last, unchanged, leaves}
-use denote.RattleType.{Denots}
+use denote.RattleType.{RattleType, Denots}
+use denote.Param.{layout, copied}
+use denote.Array.{Array}
 use Rattle.std.specs.Borrow.{Bor}
 use denote.Signature.{Slot, types_at}
 use denote.Triple.Clauses.{Ended, Lasts, lasts}
@@ -87,20 +91,44 @@ becomes e = (nothing, (e, tt))
 abbrev pub gives_and : {R X : Type 0} → R → X → Returned R × (X × Unit {0})
 gives_and d e = (value d, (e, tt))
 
+-- ---- the lifetime of a call: the last one
+abbrev pub of_call : (n : ℕ) → Lfts n → Lft
+of_call zero κs = []
+of_call (suc zero) κs = κs.0
+of_call (suc (suc n)) κs = of_call (suc n) κs.1
+
 -- ---- a contract, in a world in which its function runs (the kit's theorem about a function holds in all of them; it has one, `w₀`)
 module _ (w : World) where
   abbrev pub Contract : Ended → Type 2
   Contract T = Logic w.𝓤 → (Memory → SProp w.𝓤) → (Routine → Fun w.𝓤) → Spec w.𝓤 T.signature
 
-  -- It asks nothing, and says that the answer is this function of the arguments.
-  abbrev pub Exact : (T : Ended) → Contract T → ((κs : Lfts T.signature.lifetimes) (a : Args T.signature κs) → Promised T κs a) → Type 2
-  Exact T contract answer =
+  -- It asks this, and says that the answer is this function of the arguments.
+  abbrev pub Says : (T : Ended) → Contract T → (Lfts T.signature.lifetimes → SProp w.𝓤) → ((κs : Lfts T.signature.lifetimes) (a : Args T.signature κs) → Promised T κs a) → Type 2
+  Says T contract asked answer =
       (κs : Lfts T.signature.lifetimes) (a : Args T.signature κs)
       → contract w.𝓛 w.𝓜.mem w.𝓡.returns κs a
       ≡ record {
         ghost = Unit {0};
-        requires = λ g. emp w.𝓤;
+        requires = λ g. asked κs;
         ensures = λ g r.
             ex w.𝓤 (λ (ws : Lasts T κs a).
             sep w.𝓤 (sem w.𝓛 (lasts T κs a ws)) (fact w.𝓤 (Gave T κs a (answer κs a) r ws)));
       }
+
+  -- It asks nothing.
+  abbrev pub Exact : (T : Ended) → Contract T → ((κs : Lfts T.signature.lifetimes) (a : Args T.signature κs) → Promised T κs a) → Type 2
+  Exact T contract answer = Says T contract (λ κs. emp w.𝓤) answer
+
+  -- Of a function for every type X: the toolchain gives it the lifetime of the call, the last one, within those that values of X name. This
+  -- is so of each call there is, and says nothing of what is handed in. It asks nothing else.
+  abbrev pub ExactOf : RattleType → (T : Ended) → Contract T → ((κs : Lfts T.signature.lifetimes) (a : Args T.signature κs) → Promised T κs a) → Type 2
+  ExactOf X T contract answer = Says T contract (λ κs. sep w.𝓤 (fact w.𝓤 (of_call T.signature.lifetimes κs ⊑ X.lives)) (emp w.𝓤)) answer
+
+  -- The same of a function that is lent an array of n of them. The toolchain gives it besides that such an array has less than 2 ^ 63
+  -- bytes, as every type of a program has.
+  abbrev pub ExactOver : RattleType → ℕ → (T : Ended) → Contract T → ((κs : Lfts T.signature.lifetimes) (a : Args T.signature κs) → Promised T κs a) → Type 2
+  ExactOver X n T contract answer =
+      Says T contract (λ κs.
+      sep w.𝓤 (fact w.𝓤 (of_call T.signature.lifetimes κs ⊑ X.lives))
+      (sep w.𝓤 (fact w.𝓤 (size (layout (Array (copied 0 X) n)) < 2 ^ 63)) (emp w.𝓤)))
+      answer

@@ -1,24 +1,12 @@
-// Choosing between two numbers without a branch in the caller, one function a width.
+// Choosing between two values without a branch in the caller, and the larger of two numbers.
 #![tactic(auto)]
 
 ghost use Rattle.std.specs.Prelude.{◌≡◌, cond};
 ghost use Rattle.base.specs.Choosing.{larger};
 
-// Numbers of refusal, seats and sizes.
-pub fn pick(c: bool, a: u8, b: u8) -> u8
-    ensures { result ≡ cond c a b }
-{
-    if c { a } else { b }
-}
+pub mod refusal; // refusal.rt: why something is refused
 
-// Counts of seats and views.
-pub fn pick_count(c: bool, a: u32, b: u32) -> u32
-    ensures { result ≡ cond c a b }
-{
-    if c { a } else { b }
-}
-
-pub fn pick_flag(c: bool, a: bool, b: bool) -> bool
+pub fn pick<T: Copy>(c: bool, a: T, b: T) -> T
     ensures { result ≡ cond c a b }
 {
     if c { a } else { b }
@@ -27,5 +15,5 @@ pub fn pick_flag(c: bool, a: bool, b: bool) -> bool
 pub fn larger(a: u32, b: u32) -> u32
     ensures { result ≡ larger a b }
 {
-    pick_count(a < b, b, a)
+    a.max(b)
 }

@@ -201,13 +201,13 @@ module _ (w : ℕ) (h : w < 2 ^ 64) where
       (xor_is _ _ _ _ (or_is _ _ _ _ (sum 0x101010101010101 1 refl (lit≤ tt)) own) tops)
 
   -- What the code computes of a word tells whether its bytes are visible ones, then blanks.
-  pub stretches-is :
+  pub stretches_is :
       let low = bit_and w 0x7f7f7f7f7f7f7f7f in
       let seen = low + 0x5f5f5f5f5f5f5f5f in
       let shown = bit_and (low + 0x6060606060606060) (bit_xor (bit_or (low + 0x101010101010101) w) 0x8080808080808080) in
       let last = bit_or (bit_xor seen 0x8080808080808080) (seen / 256 + 0x8000000000000000) in
       eqb (bit_and (bit_and shown last) 0x8080808080808080) 0x8080808080808080 ≡ stretched (word_bytes w)
-  stretches-is =
+  stretches_is =
       let all = and_is _ _ _ _ (and_is _ _ _ _ showns (or_is _ _ _ _ (xor_is _ _ _ _ sees tops) behinds)) tops in
       ap (λ (y : ℕ). eqb y 0x8080808080808080) all.is
       ∙ same_lanes (λ p x. bit_and (marks p x) 128) (λ p x. 128) all.small tops.small (word_bytes w) 0x21 (lit< tt) (word_below w h) 0 0

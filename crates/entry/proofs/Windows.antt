@@ -108,3 +108,9 @@ two_windows e i =
     (ap (λ (s : List ℕ). stretched (word_bytes e.hi) && stretched s) (middle e.hi e.lo i.hi i.lo)
     ∙ windows (take 4 (word_bytes e.hi)) (e.hi / 256 ^ 3 % 256) (drop 5 (word_bytes e.hi)) (take 4 (word_bytes e.lo)))
     ∙ shown_first (e.hi / 256 ^ 7) (low_bytes 7 e.hi ++ take 4 (word_bytes e.lo))
+
+-- The two windows as the code has looked at them.
+pub both_windows : (e : Entry) (s t : Bool) → e.hi < 2 ^ 64 → e.lo < 2 ^ 64 → s ≡ stretched (word_bytes e.hi)
+    → t ≡ stretched (word_bytes (e.hi % 0x100000000 * 0x100000000 + e.lo / 0x100000000))
+    → (not (blank (e.hi / 0x100000000000000)) && (s && t)) ≡ well_formed e
+both_windows e s t h l p q = ap₂ (λ (x y : Bool). not (blank (e.hi / 0x100000000000000)) && (x && y)) p q ∙ two_windows e (record { hi = h; lo = l })

@@ -1,9 +1,8 @@
 -- 01, "Lines": "Entries are 32 .. lowercase hex digits".
-use Rattle.std.specs.Prelude.{ℕ, ◌*◌, ◌/◌, ◌%◌, ◌^◌, ◌<◌, Bool, ◌&&◌, cond, List, [], ◌∷◌, take, drop}
-use Rattle.text.specs.Digits.{hex_char, hex_of, word_digits}
+use Rattle.std.specs.Prelude.{ℕ, ◌*◌, ◌/◌, ◌%◌, ◌^◌, ◌<◌, List, [], ◌∷◌, take, drop, Option, Some}
+use Rattle.text.specs.Digits.{hex_char, ◌>>=◌, hex_of, word_digits}
 use Rattle.entry.specs.declared.Entry.{Entry}
-use Rattle.entry.specs.declared.hex.EntryField.{EntryField}
-use Rattle.entry.specs.Entry.{bytes_of, of_words, zero_entry}
+use Rattle.entry.specs.Entry.{bytes_of, of_words}
 
 -- Two digits a byte, the higher half first.
 abbrev pub bytes_text : List ℕ → List ℕ
@@ -18,16 +17,12 @@ entry_text e = bytes_text (bytes_of e)
 abbrev pub entry_digits : ℕ
 entry_digits = 2 * 16
 
--- An entry where the field is good, else the zero entry.
-abbrev pub kept : Bool → Entry → EntryField
-kept good e = record { good = good; entry = cond good e zero_entry }
-
--- What a field holds: the two words that its digits make, good where all of them are digits and there are just enough.
-unfoldable pub entry_field : List ℕ → EntryField
-entry_field f =
-    let h = hex_of (take word_digits f) in
-    let l = hex_of (drop word_digits f) in
-    kept (h.good && l.good) (of_words h.value l.value)
+-- The entry that a field holds: the two words that its digits make, where all of them are digits and there are just enough.
+unfoldable pub entry_field : List ℕ → Option Entry
+entry_field f = do
+  h ← hex_of (take word_digits f)
+  l ← hex_of (drop word_digits f)
+  Some (of_words h l)
 
 -- The entries there are: a word is a number of 64 bits.
 pub record IsEntry (e : Entry) : Type 0 where

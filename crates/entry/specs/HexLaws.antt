@@ -1,7 +1,7 @@
 -- The text of an entry: two words of hex digits, written and read back, both ways.
-use Rattle.std.specs.Prelude.{ℕ, zero, suc, ◌/◌, ◌%◌, ◌^◌, ◌<◌, ◌≡◌, refl, true, List, [], ◌∷◌, ◌++◌, length, take, drop}
-use Rattle.std.proofs.Common.{sym, ap, ap₂, ◌∙◌, arith, div-lt_iff_lt-mul, mod-eq_of_lt, lit<, take-append-drop, take_at, drop_at}
-use Rattle.base.specs.Tests.{and_true}
+use Rattle.std.specs.Prelude.{ℕ, zero, suc, ◌/◌, ◌%◌, ◌^◌, ◌<◌, ◌≡◌, refl, List, [], ◌∷◌, ◌++◌, length, take, drop, Some}
+use Rattle.std.proofs.Common.{sym, ap, ap₂, ◌∙◌, arith, div-lt_iff_lt-mul, mod-eq_of_lt, lit<, take-append-drop, take_at, drop_at, subst}
+use Rattle.std.proofs.lemmas.Option.{option_and_then_some, same_Some}
 use Rattle.text.specs.Clean.{Clean, clean_append, hex_clean}
 use Rattle.text.specs.Digits.{digits, hex_char, hex, hex_of, word_digits}
 use Rattle.text.specs.DigitLaws.{more_off}
@@ -69,7 +69,7 @@ text_clean e i = rw (text_words e i) (clean_append (hex e.hi) (hex e.lo) (hex_cl
 -- ---- both ways
 
 -- What is written of an entry reads as the entry.
-pub entry_reads : (e : Entry) → IsEntry e → entry_field (entry_text e) ≡ record { good = true; entry = e }
+pub entry_reads : (e : Entry) → IsEntry e → entry_field (entry_text e) ≡ Some e
 unfolding entry_field
 entry_reads e i =
     let h = hex e.hi in
@@ -79,15 +79,13 @@ entry_reads e i =
     rw (high, low, hex_reads e.hi i.hi, hex_reads e.lo i.lo)
 
 -- What reads as an entry is what is written of it.
-pub entry_exact : (f : List ℕ) → (entry_field f).good ≡ true → (f ≡ entry_text (entry_field f).entry) × IsEntry (entry_field f).entry
+pub entry_exact : (f : List ℕ) (e : Entry) → entry_field f ≡ Some e → (f ≡ entry_text e) × IsEntry e
 unfolding entry_field
-entry_exact f h =
-    let hi = hex_of (take word_digits f) in
-    let lo = hex_of (drop word_digits f) in
-    let both = and_true hi.good lo.good h in
-    let high = hex_exact (take word_digits f) both.0 in
-    let low = hex_exact (drop word_digits f) both.1 in
-    let e = of_words hi.value lo.value in
-    let is : IsEntry e = record { hi = high.1; lo = low.1 } in
-    let text = sym (take-append-drop word_digits f) ∙ ap₂ ◌++◌ high.0 low.0 ∙ sym (text_words e is) in
-    rw h (text, is)
+entry_exact f e h =
+    option_and_then_some _ (hex_of (take word_digits f)) e h λ hi is_hi low.
+    option_and_then_some _ (hex_of (drop word_digits f)) e low λ lo is_lo words.
+    let high = hex_exact (take word_digits f) hi is_hi in
+    let low = hex_exact (drop word_digits f) lo is_lo in
+    let is : IsEntry (of_words hi lo) = record { hi = high.1; lo = low.1 } in
+    let text = sym (take-append-drop word_digits f) ∙ ap₂ ◌++◌ high.0 low.0 ∙ sym (text_words (of_words hi lo) is) in
+    subst (λ (x : Entry). (f ≡ entry_text x) × IsEntry x) (same_Some (of_words hi lo) e words) (text, is)

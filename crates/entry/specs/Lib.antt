@@ -1,3 +1,4 @@
+pub mod Derived
 pub mod Entry
 pub mod Flags
 pub mod Hex

@@ -10,7 +10,7 @@ pub mod hex; // hex.rt: its text in a line
 // Bytes of an entry.
 pub const SIZE: usize = 16;
 
-#[derive(Clone, Copy)]
+#[derive(Clone, Copy, PartialEq, Eq, PartialOrd, Ord)]
 pub struct Entry {
     pub hi: u64,
     pub lo: u64,
@@ -23,42 +23,31 @@ pub fn zero() -> Entry
     Entry { hi: 0, lo: 0 }
 }
 
-// All 16 bytes, blanks included.
+// All 16 bytes, blanks included. `a == b` is the same (law `derived_same`), but ends at the first word that differs: with it the loops over
+// rows, which compare several at once, took twice as long.
+#[tactic(auto, using(crate::specs::Laws::same_words))]
 pub fn same(a: Entry, b: Entry) -> bool
     ensures { result ≡ same a b }
 {
     (a.hi == b.hi) & (a.lo == b.lo)
 }
 
-// Big-endian words compare as their bytes do, left to right.
+// Big-endian words, the higher one first, compare as their bytes do, left to right.
+#[tactic(auto, using(crate::specs::Derived::derived_less))]
 pub fn less(a: Entry, b: Entry) -> bool
     ensures { result ≡ less a b }
 {
-    (a.hi < b.hi) | ((a.hi == b.hi) & (a.lo < b.lo))
+    a < b
 }
 
-// The highest byte first; each is divided by its weight.
+// The highest byte first.
 pub fn bytes_of(e: Entry) -> [u8; SIZE]
     ensures { result ≡ bytes_of e }
 {
-    [
-        (e.hi / 0x100000000000000) as u8,
-        (e.hi / 0x1000000000000 % 256) as u8,
-        (e.hi / 0x10000000000 % 256) as u8,
-        (e.hi / 0x100000000 % 256) as u8,
-        (e.hi / 0x1000000 % 256) as u8,
-        (e.hi / 0x10000 % 256) as u8,
-        (e.hi / 0x100 % 256) as u8,
-        (e.hi / 1 % 256) as u8,
-        (e.lo / 0x100000000000000) as u8,
-        (e.lo / 0x1000000000000 % 256) as u8,
-        (e.lo / 0x10000000000 % 256) as u8,
-        (e.lo / 0x100000000 % 256) as u8,
-        (e.lo / 0x1000000 % 256) as u8,
-        (e.lo / 0x10000 % 256) as u8,
-        (e.lo / 0x100 % 256) as u8,
-        (e.lo / 1 % 256) as u8,
-    ]
+    let mut bytes = [0; SIZE];
+    bytes[..8].copy_from_slice(&e.hi.to_be_bytes());
+    bytes[8..].copy_from_slice(&e.lo.to_be_bytes());
+    bytes
 }
 
 // The top bit of every byte of a word.
@@ -67,6 +56,7 @@ const TOPS: u64 = 0x8080808080808080;
 // Whether the eight bytes of a word are visible ones, then blanks; all eight in each step. To the low seven bits of every byte
 // 128 - x is added: no sum leaves its byte, and its top bit tells whether they are x or more. A visible byte stands behind another,
 // or is the first.
+#[tactic(auto, using(crate::proofs::Marks::stretches_is))]
 fn stretches(w: u64) -> bool
     ensures { result ≡ stretched (word_bytes w) }
 {
@@ -79,6 +69,7 @@ fn stretches(w: u64) -> bool
 
 // The first byte is no blank, so a visible one. The serial in two words, bytes 0 to 7 and bytes 4 to 11: each two neighbours stand in one
 // of them.
+#[tactic(auto, using(crate::proofs::Windows::middle_room, crate::proofs::Windows::both_windows))]
 pub fn well_formed(e: Entry) -> bool
     ensures { result ≡ well_formed e }
 {

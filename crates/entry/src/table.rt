@@ -9,6 +9,7 @@ pub const SEATS: usize = 64;
 
 const WORDS: usize = 2 * SEATS;
 
+// Words, and not `[Entry; 64]`: C keeps a table as `uint64_t [128]` and lends it as it is (`ack_entries`, `vote_entries`).
 pub type Entries = [u64; WORDS];
 
 pub fn no_entries() -> Entries
@@ -17,6 +18,7 @@ pub fn no_entries() -> Entries
     [0; WORDS]
 }
 
+#[tactic(auto, unfolding(crate::specs::Table::entry_at))]
 pub fn entry_at(t: &Entries, k: usize) -> Entry
     ensures { result ≡ entry_at t.now k }
 {
@@ -30,6 +32,7 @@ pub fn entry_at(t: &Entries, k: usize) -> Entry
     }
 }
 
+#[tactic(auto, unfolding(crate::specs::Table::with_entry))]
 pub fn put_entry(t: &mut Entries, k: usize, e: Entry)
     ensures { t.new ≡ with_entry t.old k e }
 {

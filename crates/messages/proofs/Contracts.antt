@@ -2,12 +2,16 @@
 use borrow.Fn.World.{World}
 use mathlib.Core.Path.{refl}
 use Rattle.base.specs.ExactContracts.{Exact, gives, gives_and}
+use Rattle.messages.specs.Lines.{row_head}
 use Rattle.messages.specs.Reader.{read_line}
 use Rattle.messages.specs.Setup.{read_setup}
 use Rattle.messages.specs.Writer.{afterwards, written}
 use Rattle.messages.specs.contracts as fn
 
 module _ (w : World) where
+  pub of_says : Exact w fn.Head.of.ended fn.Head.of.spec (λ κs (r, _). gives (row_head r))
+  of_says κs a = refl
+
   pub read_line_says : Exact w fn.read.read_line.ended fn.read.read_line.spec (λ κs (line, _). gives (read_line line.now))
   read_line_says κs a = refl
 

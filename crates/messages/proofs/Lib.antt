@@ -1,4 +1,2 @@
 pub mod Contracts
-pub mod Reading
-pub mod ReadingSetup
 pub mod Writing

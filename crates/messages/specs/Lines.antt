@@ -1,5 +1,5 @@
 -- 01, "Lines": what the line of a message is.
-use Rattle.std.specs.Prelude.{ℕ, ◌<◌, ◌≤◌, ◌^◌, ◌≡◌, Bool, true, false, cond, List, [], ◌∷◌}
+use Rattle.std.specs.Prelude.{ℕ, ◌<◌, ◌≤◌, ◌^◌, ◌≡◌, Bool, true, false, cond, List, [], ◌∷◌, Option, Some, None}
 use Rattle.text.specs.Digits.{decimal, hex}
 use Rattle.text.specs.Fields.{line_of, IsLineOf}
 use Rattle.entry.specs.Entry.{zero_entry}
@@ -11,8 +11,6 @@ use Rattle.votes.specs.declared.Row.{Row}
 use Rattle.messages.specs.declared.Head.{Head}
 use Rattle.messages.specs.declared.Message.{Message}
 use Rattle.messages.specs.declared.Message.TheVariants.{Start, Enter, Propose, Acknowledge, Cast, Ask, Confirm}
-use Rattle.messages.specs.declared.read.Line.{Line}
-use Rattle.messages.specs.declared.read.Line.TheVariants.{Read, Malformed}
 
 -- ---- fields
 
@@ -174,10 +172,10 @@ tidy (Ask q) = Ask q
 tidy (Confirm c) = Confirm c
 
 -- ---- what reading a line is: the message that fits and whose line it is, and 19 exactly where there is none
-abbrev pub Reads : List ℕ → Line → Type 0
-Reads l (Read m) = IsLine l m × (Fits m × (tidy m ≡ m))
-Reads l Malformed = (m : Message) → Fits m → IsLine l m → ⊥
+abbrev pub Reads : List ℕ → Option Message → Type 0
+Reads l (Some m) = IsLine l m × (Fits m × (tidy m ≡ m))
+Reads l None = (m : Message) → Fits m → IsLine l m → ⊥
 
-abbrev pub line_number : Line → ℕ
-line_number (Read m) = 0
-line_number Malformed = 19
+abbrev pub line_number : Option Message → ℕ
+line_number (Some m) = 0
+line_number None = 19

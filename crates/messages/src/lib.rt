@@ -1,6 +1,9 @@
 // The messages and events, and their lines.
 #![tactic(auto)]
 
+ghost use Rattle.std.specs.Prelude.{◌≡◌};
+ghost use Rattle.messages.specs.Lines.{row_head};
+
 pub mod read; // read.rt: the message of a line
 pub mod write; // write.rt: the line of a message
 pub mod setup; // setup.rt: the line H, which opens a trace
@@ -15,6 +18,19 @@ pub struct Head {
     pub seat: Seat,
     pub verified: bool,
     pub view: View,
+}
+
+impl Head {
+    // What a row begins with. No From: that would say the answer in a ghost member of its own, and no contract would stand here.
+    pub fn of(r: Row) -> Head
+        ensures { result ≡ row_head r }
+    {
+        Head {
+            seat: r.seat,
+            verified: r.verified,
+            view: r.view,
+        }
+    }
 }
 
 // What A and C say: yes to this entry, in this view.

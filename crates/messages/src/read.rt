@@ -1,236 +1,161 @@
 // The reader: field by field, each found by the one finder. A field that is missing is read as an empty one, which no reader
-// of a field takes; so every kind is straight code, and looks at the end of the line once.
-ghost use Rattle.std.specs.Prelude.{◌≡◌, ◌≤◌};
-ghost use Rattle.messages.specs.Reader.{mark_of, number_at, hex_at, letter_at, entry_at, head_at, got, enter_at, assent_at};
+// of a field takes. Every kind looks at the end of the line once. A text and a place go together and are no struct: each step gives the
+// place behind it by value, and a cursor that moves would have to promise where a field that is not read leaves it.
+ghost use Rattle.std.specs.Prelude.{◌≡◌, ◌≤◌, IfSome};
+ghost use Rattle.text.specs.Fields.{behind, end_behind};
+ghost use Rattle.messages.specs.Reader.{mark_of, number_at, hex_at, letter_at, entry_at, dash_at, head_at, enter_at, assent_at};
 ghost use Rattle.messages.specs.Reader.{propose_at, ask_at, row_with, nil_at, vote_at, cast_at, message_at, read_line};
 
 use crate::{
     ACKNOWLEDGE, ASK, Assent, CAST, CONFIRM, DASH, ENTER, Head, Message, PLUS, PROPOSE, Proposal,
     Request, START, TOP_COUNT, TOP_SEAT, TOP_VIEW,
 };
-use entry::hex::{DIGITS, EntryField, read_entry};
-use entry::zero;
+use entry::hex::{DIGITS, read_entry};
+use entry::{Entry, zero};
 use seats::{Seat, View};
+use text::WORD;
 use text::digits::{decimal, hex, letter};
 use text::field::{field, field_of, over, place_behind};
-use text::{Number, WORD};
 use votes::{Row, Vote};
 
-// The message, or number 19.
-#[derive(Clone, Copy)]
-pub enum Line {
-    Read(Message),
-    Malformed,
-}
-
 // ---- one field, and where it ends
-#[derive(Clone, Copy)]
-pub(crate) struct NumberAt {
-    pub number: Number,
-    pub end: usize,
-}
 
-#[derive(Clone, Copy)]
-pub(crate) struct LetterAt {
-    pub letter: u8,
-    pub end: usize,
-}
-
-#[derive(Clone, Copy)]
-pub(crate) struct EntryAt {
-    pub field: EntryField,
-    pub end: usize,
-}
-
-#[derive(Clone, Copy)]
-pub(crate) struct Mark {
-    pub good: bool,
-    pub verified: bool,
-}
-
-// The decimal, at most max, in the field behind the tab at `end`.
-pub(crate) fn number_at(t: &[u8], end: usize, max: u32) -> NumberAt
-    ensures { (result ≡ number_at t.now end max) × (result.number.value ≤ max) }
+// The field behind the tab at `end`, which should have k bytes.
+#[tactic(auto, unfolding(text::specs::Fields::behind, text::specs::Fields::end_behind))]
+fn behind(t: &[u8], end: usize, k: usize) -> (&[u8], usize)
+    ensures { (result.0.now ≡ behind t.now end) × (result.1 ≡ end_behind t.now end) }
 {
     let p = place_behind(t, end);
-    let f = field(t, p);
-    NumberAt {
-        number: decimal(f, max),
-        end: p + f.len(),
-    }
+    let f = field_of(t, p, k);
+    (f, p + f.len())
 }
 
-fn hex_at(t: &[u8], end: usize) -> NumberAt
+// The decimal, at most max.
+pub(crate) fn number_at(t: &[u8], end: usize, max: u32) -> Option<(u64, usize)>
+    ensures value { result ≡ number_at t.now end max }
+    ensures small { IfSome result (λ n. n.0 ≤ max) }
+{
+    let (f, end) = behind(t, end, 0);
+    Some((decimal(f, max)?, end))
+}
+
+fn hex_at(t: &[u8], end: usize) -> Option<(u64, usize)>
     ensures { result ≡ hex_at t.now end }
 {
-    let p = place_behind(t, end);
-    let f = field_of(t, p, WORD);
-    NumberAt {
-        number: hex(f),
-        end: p + f.len(),
-    }
+    let (f, end) = behind(t, end, WORD);
+    Some((hex(f)?, end))
 }
 
-pub(crate) fn entry_at(t: &[u8], end: usize) -> EntryAt
+pub(crate) fn entry_at(t: &[u8], end: usize) -> Option<(Entry, usize)>
     ensures { result ≡ entry_at t.now end }
 {
-    let p = place_behind(t, end);
-    let f = field_of(t, p, DIGITS);
-    EntryAt {
-        field: read_entry(f),
-        end: p + f.len(),
-    }
+    let (f, end) = behind(t, end, DIGITS);
+    Some((read_entry(f)?, end))
 }
 
-pub(crate) fn letter_at(t: &[u8], end: usize) -> LetterAt
+fn letter_at(t: &[u8], end: usize) -> Option<(u8, usize)>
     ensures { result ≡ letter_at t.now end }
 {
-    let p = place_behind(t, end);
-    let f = field(t, p);
-    LetterAt {
-        letter: letter(f),
-        end: p + f.len(),
-    }
+    let (f, end) = behind(t, end, 0);
+    Some((letter(f)?, end))
 }
 
-fn mark_of(x: u8) -> Mark
+// Where the dash ends, if the field is one.
+#[tactic(auto, unfolding(crate::specs::Reader::dash_at))]
+pub(crate) fn dash_at(t: &[u8], end: usize) -> Option<usize>
+    ensures { result ≡ dash_at t.now end }
+{
+    let (d, end) = letter_at(t, end)?;
+    (d == DASH).then_some(end)
+}
+
+fn mark_of(x: u8) -> Option<bool>
     ensures { result ≡ mark_of x }
 {
-    Mark {
-        good: (x == PLUS) | (x == DASH),
-        verified: x == PLUS,
+    match x {
+        PLUS => Some(true),
+        DASH => Some(false),
+        _ => None,
     }
 }
 
 // ---- what stands behind the kind, and whether it is all there
-#[derive(Clone, Copy)]
-struct HeadAt {
-    good: bool,
-    head: Head,
-    end: usize,
-}
-
-#[derive(Clone, Copy)]
-struct AssentAt {
-    good: bool,
-    assent: Assent,
-}
 
 // Seat, mark and view.
-fn head_at(t: &[u8], end: usize) -> HeadAt
+#[tactic(auto, unfolding(crate::specs::Reader::head_at))]
+fn head_at(t: &[u8], end: usize) -> Option<(Head, usize)>
     ensures { result ≡ head_at t.now end }
 {
-    let s = number_at(t, end, TOP_SEAT);
-    let m = letter_at(t, s.end);
-    let v = number_at(t, m.end, TOP_VIEW);
-    let seat = s.number;
-    let mark = mark_of(m.letter);
-    let view = v.number;
-    HeadAt {
-        good: seat.good & mark.good & view.good,
-        head: Head {
-            seat: Seat(seat.value as u8),
-            verified: mark.verified,
-            view: View(view.value as u32),
-        },
-        end: v.end,
-    }
+    let (seat, end) = number_at(t, end, TOP_SEAT)?;
+    let (mark, end) = letter_at(t, end)?;
+    let verified = mark_of(mark)?;
+    let (view, end) = number_at(t, end, TOP_VIEW)?;
+    let head = Head {
+        seat: Seat(seat as u8),
+        verified,
+        view: View(view as u32),
+    };
+    Some((head, end))
 }
 
-fn got(good: bool, m: Message) -> Line
-    ensures { result ≡ got good m }
-{
-    if good { Line::Read(m) } else { Line::Malformed }
-}
-
-fn enter_at(t: &[u8], end: usize) -> Line
+#[tactic(auto, unfolding(crate::specs::Reader::enter_at))]
+fn enter_at(t: &[u8], end: usize) -> Option<Message>
     ensures { result ≡ enter_at t.now end }
 {
-    let v = number_at(t, end, TOP_VIEW);
-    let view = v.number;
-    got(
-        view.good & over(t, v.end),
-        Message::Enter(View(view.value as u32)),
-    )
+    let (view, end) = number_at(t, end, TOP_VIEW)?;
+    over(t, end).then_some(Message::Enter(View(view as u32)))
 }
 
-fn assent_at(t: &[u8], end: usize) -> AssentAt
+#[tactic(auto, unfolding(crate::specs::Reader::assent_at))]
+fn assent_at(t: &[u8], end: usize) -> Option<Assent>
     ensures { result ≡ assent_at t.now end }
 {
-    let h = head_at(t, end);
-    let e = entry_at(t, h.end);
-    let x = e.field;
-    let head = h.head;
-    let entry = x.entry;
-    AssentAt {
-        good: h.good & x.good & over(t, e.end),
-        assent: Assent {
-            head: head,
-            entry: entry,
-        },
-    }
+    let (head, end) = head_at(t, end)?;
+    let (entry, end) = entry_at(t, end)?;
+    over(t, end).then_some(Assent { head, entry })
 }
 
-fn propose_at(t: &[u8], end: usize) -> Line
+#[tactic(auto, unfolding(crate::specs::Reader::propose_at))]
+fn propose_at(t: &[u8], end: usize) -> Option<Message>
     ensures { result ≡ propose_at t.now end }
 {
-    let h = head_at(t, end);
-    let e = entry_at(t, h.end);
-    let m = hex_at(t, e.end);
-    let x = e.field;
-    let mask = m.number;
-    let head = h.head;
-    let entry = x.entry;
-    let p = Proposal {
-        head: head,
-        entry: entry,
-        mask: mask.value,
-    };
-    got(
-        h.good & x.good & mask.good & over(t, m.end),
-        Message::Propose(p),
-    )
+    let (head, end) = head_at(t, end)?;
+    let (entry, end) = entry_at(t, end)?;
+    let (mask, end) = hex_at(t, end)?;
+    over(t, end).then_some(Message::Propose(Proposal { head, entry, mask }))
 }
 
-fn ask_at(t: &[u8], end: usize) -> Line
+#[tactic(auto, unfolding(crate::specs::Reader::ask_at))]
+fn ask_at(t: &[u8], end: usize) -> Option<Message>
     ensures { result ≡ ask_at t.now end }
 {
-    let h = head_at(t, end);
-    let e = entry_at(t, h.end);
-    let c = number_at(t, e.end, TOP_COUNT);
-    let x = e.field;
-    let count = c.number;
-    let head = h.head;
-    let entry = x.entry;
-    let q = Request {
-        head: head,
-        entry: entry,
-        count: count.value as u8,
+    let (head, end) = head_at(t, end)?;
+    let (entry, end) = entry_at(t, end)?;
+    let (count, end) = number_at(t, end, TOP_COUNT)?;
+    let request = Request {
+        head,
+        entry,
+        count: count as u8,
     };
-    got(
-        h.good & x.good & count.good & over(t, c.end),
-        Message::Ask(q),
-    )
+    over(t, end).then_some(Message::Ask(request))
 }
 
 fn row_with(h: Head, vote: Vote) -> Row
     ensures { result ≡ row_with h vote }
 {
-    let seat = h.seat;
-    let view = h.view;
     Row {
-        seat: seat,
+        seat: h.seat,
         verified: h.verified,
-        view: view,
-        vote: vote,
+        view: h.view,
+        vote,
     }
 }
 
-// A nil vote is one dash; its unused fields are zero.
-fn nil_at(t: &[u8], h: HeadAt, end: usize) -> Line
+// A nil vote is one dash; its unused fields are zero. (Written out, as in `fresh` of replica: a function for it is as long.)
+#[tactic(auto, unfolding(crate::specs::Reader::nil_at))]
+fn nil_at(t: &[u8], h: Head, end: usize) -> Option<Message>
     ensures { result ≡ nil_at t.now h end }
 {
-    let head = h.head;
     let nil = Vote {
         entry: zero(),
         mask: 0,
@@ -238,86 +163,63 @@ fn nil_at(t: &[u8], h: HeadAt, end: usize) -> Line
         cast: false,
         verified: false,
     };
-    got(h.good & over(t, end), Message::Cast(row_with(head, nil)))
+    over(t, end).then_some(Message::Cast(row_with(h, nil)))
 }
 
 // A vote that is not nil: u, entry, mask and mark.
-fn vote_at(t: &[u8], h: HeadAt) -> Line
-    ensures { result ≡ vote_at t.now h }
+#[tactic(auto, unfolding(crate::specs::Reader::vote_at))]
+fn vote_at(t: &[u8], h: Head, end: usize) -> Option<Message>
+    ensures { result ≡ vote_at t.now h end }
 {
-    let u = number_at(t, h.end, TOP_VIEW);
-    let e = entry_at(t, u.end);
-    let c = hex_at(t, e.end);
-    let m = letter_at(t, c.end);
-    let mark = mark_of(m.letter);
-    let view = u.number;
-    let x = e.field;
-    let mask = c.number;
-    let head = h.head;
-    let entry = x.entry;
+    let (view, end) = number_at(t, end, TOP_VIEW)?;
+    let (entry, end) = entry_at(t, end)?;
+    let (mask, end) = hex_at(t, end)?;
+    let (mark, end) = letter_at(t, end)?;
     let vote = Vote {
-        entry: entry,
-        mask: mask.value,
-        view: View(view.value as u32),
+        entry,
+        mask,
+        view: View(view as u32),
         cast: true,
-        verified: mark.verified,
+        verified: mark_of(mark)?,
     };
-    got(
-        h.good & view.good & x.good & mask.good & mark.good & over(t, m.end),
-        Message::Cast(row_with(head, vote)),
-    )
+    over(t, end).then_some(Message::Cast(row_with(h, vote)))
 }
 
-fn cast_at(t: &[u8], end: usize) -> Line
+#[tactic(auto, unfolding(crate::specs::Reader::cast_at))]
+fn cast_at(t: &[u8], end: usize) -> Option<Message>
     ensures { result ≡ cast_at t.now end }
 {
-    let h = head_at(t, end);
-    let d = letter_at(t, h.end);
-    if d.letter == DASH {
-        nil_at(t, h, d.end)
-    } else {
-        vote_at(t, h)
+    let (head, end) = head_at(t, end)?;
+    match dash_at(t, end) {
+        Some(end) => nil_at(t, head, end),
+        None => vote_at(t, head, end),
     }
 }
 
 // ---- the line
 
 // What stands behind the kind, or behind what may come to stand between.
-fn message_at(t: &[u8], end: usize, kind: u8) -> Line
+#[tactic(auto, unfolding(crate::specs::Reader::message_at))]
+fn message_at(t: &[u8], end: usize, kind: u8) -> Option<Message>
     ensures { result ≡ message_at t.now end kind }
 {
-    if kind == ACKNOWLEDGE {
-        let x = assent_at(t, end);
-        let a = x.assent;
-        return got(x.good, Message::Acknowledge(a));
+    match kind {
+        ACKNOWLEDGE => Some(Message::Acknowledge(assent_at(t, end)?)),
+        CAST => cast_at(t, end),
+        PROPOSE => propose_at(t, end),
+        CONFIRM => Some(Message::Confirm(assent_at(t, end)?)),
+        ASK => ask_at(t, end),
+        ENTER => enter_at(t, end),
+        START => over(t, end).then_some(Message::Start),
+        _ => None,
     }
-    if kind == CAST {
-        return cast_at(t, end);
-    }
-    if kind == PROPOSE {
-        return propose_at(t, end);
-    }
-    if kind == CONFIRM {
-        let x = assent_at(t, end);
-        let c = x.assent;
-        return got(x.good, Message::Confirm(c));
-    }
-    if kind == ASK {
-        return ask_at(t, end);
-    }
-    if kind == ENTER {
-        return enter_at(t, end);
-    }
-    if kind == START {
-        return got(over(t, end), Message::Start);
-    }
-    Line::Malformed
 }
 
 // The message of which this is the line, with its LF and nothing behind it.
-pub fn read_line(line: &[u8]) -> Line
+#[tactic(auto, unfolding(crate::specs::Reader::read_line))]
+pub fn read_line(line: &[u8]) -> Option<Message>
     ensures { result ≡ read_line line.now }
 {
-    let kind = letter(field(line, 0));
+    let kind = letter(field(line, 0))?;
     message_at(line, 1, kind)
 }

@@ -1,9 +1,9 @@
 // The line H: n, f or a dash, seat, entry.
 ghost use Rattle.std.specs.Prelude.{◌≡◌};
-ghost use Rattle.messages.specs.Setup.{sizes_at, opened, read_setup};
+ghost use Rattle.messages.specs.Setup.{sizes_at, read_setup};
 
-use crate::read::{entry_at, letter_at, number_at};
-use crate::{DASH, TOP_SETUP};
+use crate::TOP_SETUP;
+use crate::read::{dash_at, entry_at, number_at};
 use entry::Entry;
 use seats::Seat;
 use text::digits::letter;
@@ -11,80 +11,45 @@ use text::field::{field, over};
 
 const SETUP: u8 = b'H';
 
-// What H says. Where f is left out, `dash` is set and f is 0: what a dash means is said where the trace begins.
+// What H says. Where a dash stands f is None: what a dash means is said where the trace begins.
 #[derive(Clone, Copy)]
 pub struct Setup {
     pub n: u8,
-    pub f: u8,
-    pub dash: bool,
+    pub f: Option<u8>,
     pub seat: Seat,
     pub entry: Entry,
 }
 
-// What H says, or number 19.
-#[derive(Clone, Copy)]
-pub enum Opening {
-    Read(Setup),
-    Malformed,
-}
-
 // What the fields of n and f say, and where the second ends.
-#[derive(Clone, Copy)]
-struct SizesAt {
-    good: bool,
-    n: u8,
-    f: u8,
-    dash: bool,
-    end: usize,
-}
-
-fn sizes_at(t: &[u8], end: usize) -> SizesAt
+#[tactic(auto, unfolding(crate::specs::Setup::sizes_at))]
+fn sizes_at(t: &[u8], end: usize) -> Option<(u8, Option<u8>, usize)>
     ensures { result ≡ sizes_at t.now end }
 {
-    let n = number_at(t, end, TOP_SETUP);
-    let f = number_at(t, n.end, TOP_SETUP);
-    let d = letter_at(t, n.end);
-    let seats = n.number;
-    let faulty = f.number;
-    let dash = d.letter == DASH;
-    SizesAt {
-        good: seats.good & (faulty.good | dash),
-        n: seats.value as u8,
-        f: faulty.value as u8,
-        dash: dash,
-        end: f.end,
+    let (n, behind_n) = number_at(t, end, TOP_SETUP)?;
+    match dash_at(t, behind_n) {
+        Some(end) => Some((n as u8, None, end)),
+        None => {
+            let (f, end) = number_at(t, behind_n, TOP_SETUP)?;
+            Some((n as u8, Some(f as u8), end))
+        }
     }
 }
 
-fn opened(good: bool, h: Setup) -> Opening
-    ensures { result ≡ opened good h }
-{
-    if good {
-        Opening::Read(h)
-    } else {
-        Opening::Malformed
-    }
-}
-
-pub fn read_setup(line: &[u8]) -> Opening
+#[tactic(auto, unfolding(crate::specs::Setup::read_setup, crate::specs::Setup::setup_at))]
+pub fn read_setup(line: &[u8]) -> Option<Setup>
     ensures { result ≡ read_setup line.now }
 {
-    let kind = letter(field(line, 0));
-    let z = sizes_at(line, 1);
-    let s = number_at(line, z.end, TOP_SETUP);
-    let e = entry_at(line, s.end);
-    let seat = s.number;
-    let x = e.field;
-    let entry = x.entry;
-    let h = Setup {
-        n: z.n,
-        f: z.f,
-        dash: z.dash,
-        seat: Seat(seat.value as u8),
-        entry: entry,
+    if letter(field(line, 0))? != SETUP {
+        return None;
+    }
+    let (n, f, end) = sizes_at(line, 1)?;
+    let (seat, end) = number_at(line, end, TOP_SETUP)?;
+    let (entry, end) = entry_at(line, end)?;
+    let setup = Setup {
+        n,
+        f,
+        seat: Seat(seat as u8),
+        entry,
     };
-    opened(
-        (kind == SETUP) & z.good & seat.good & x.good & over(line, e.end),
-        h,
-    )
+    over(line, end).then_some(setup)
 }

@@ -1,65 +1,47 @@
 // The writer: the length first, so that a line that does not fit touches no byte; then field by field, in place.
 ghost use Rattle.std.specs.Prelude.{◌≡◌, true, cond, [], ◌∷◌, ◌≤◌, ◌+◌, length};
-ghost use Rattle.base.specs.Refusal.{first};
+ghost use Rattle.base.specs.Refusal.{judged};
 ghost use Rattle.text.specs.Digits.{decimal, hex};
 ghost use Rattle.text.specs.Fields.{tabbed};
 ghost use Rattle.text.specs.Put.{Puts};
 ghost use Rattle.entry.specs.Hex.{entry_text};
 ghost use Rattle.messages.specs.declared.Message.TheVariants.{Propose, Acknowledge, Cast, Ask};
-ghost use Rattle.messages.specs.Lines.{mark, head, vote, row_head, kind, fields, line};
-ghost use Rattle.messages.specs.Writer.{seated, writable, writer_refusals, told, written, lent, afterwards};
+ghost use Rattle.messages.specs.Lines.{mark, head, vote, kind, fields, line};
+ghost use Rattle.messages.specs.Writer.{seated, writable, writer_refusals, written, afterwards};
 
 use crate::{
     ACKNOWLEDGE, ASK, Assent, CAST, CONFIRM, DASH, ENTER, Head, Message, PLUS, PROPOSE, Proposal,
     Request, START, TOP_COUNT, TOP_SEAT,
 };
-use base::pick;
+use base::refusal::{Refusal, refuse_if};
 use entry::Entry;
 use entry::hex::{DIGITS, put_text};
 use text::put::{put_byte, put_decimal, put_hex, width};
 use text::{LF, TAB, WORD};
 use votes::{Row, Vote};
 
-// Number 0 and how long the line is, or 20 or 21 and 0.
-#[derive(Clone, Copy)]
-pub struct Written {
-    pub number: u8,
-    pub length: usize,
-}
-
-// Bounds in these contracts are there so that no sum overflows, and are wider than any field.
+// Bounds in these contracts are there so that no sum overflows, and are wider than any field. Memory and a place go together and are no
+// struct: a place comes back by value, and a cursor would carry these bounds through each field.
 
 // ---- how long a line is
+#[tactic(auto, using(text::specs::DecimalLaws::width_le))]
 fn head_length(h: Head) -> usize
     ensures { (result ≡ length (tabbed (head h []))) × (result ≤ 100) }
 {
-    let seat = h.seat;
-    let view = h.view;
-    4 + width(seat.0 as u64) + width(view.0 as u64)
+    4 + width(h.seat.0 as u64) + width(h.view.0 as u64)
 }
 
+#[tactic(auto, using(text::specs::DecimalLaws::width_le))]
 fn vote_length(x: Vote) -> usize
     ensures { (result ≡ length (tabbed (vote x.cast x))) × (result ≤ 200) }
 {
     if !x.cast {
         return 2;
     }
-    let u = x.view;
-    1 + width(u.0 as u64) + 1 + DIGITS + 1 + WORD + 2
+    1 + width(x.view.0 as u64) + 1 + DIGITS + 1 + WORD + 2
 }
 
-fn row_head(r: Row) -> Head
-    ensures { result ≡ row_head r }
-{
-    let seat = r.seat;
-    let view = r.view;
-    Head {
-        seat: seat,
-        verified: r.verified,
-        view: view,
-    }
-}
-
+#[tactic(auto, using(text::specs::DecimalLaws::width_le))]
 fn line_length(m: Message) -> usize
     ensures { result ≡ length (line m) }
 {
@@ -67,10 +49,9 @@ fn line_length(m: Message) -> usize
         Message::Start => 2,
         Message::Enter(v) => 3 + width(v.0 as u64),
         Message::Propose(p) => 2 + head_length(p.head) + 1 + DIGITS + 1 + WORD,
-        Message::Acknowledge(a) => 2 + head_length(a.head) + 1 + DIGITS,
-        Message::Cast(r) => 2 + head_length(row_head(r)) + vote_length(r.vote),
+        Message::Acknowledge(a) | Message::Confirm(a) => 2 + head_length(a.head) + 1 + DIGITS,
+        Message::Cast(r) => 2 + head_length(Head::of(r)) + vote_length(r.vote),
         Message::Ask(q) => 2 + head_length(q.head) + 1 + DIGITS + 1 + width(q.count as u64),
-        Message::Confirm(a) => 2 + head_length(a.head) + 1 + DIGITS,
     }
 }
 
@@ -78,25 +59,25 @@ fn line_length(m: Message) -> usize
 fn seated(h: Head) -> bool
     ensures { result ≡ seated h }
 {
-    let s = h.seat;
-    (s.0 as u32) <= TOP_SEAT
+    (h.seat.0 as u32) <= TOP_SEAT
 }
 
+#[tactic(auto, unfolding(crate::specs::Writer::writable))]
 fn writable(m: Message) -> bool
     ensures { result ≡ writable m }
 {
     match m {
-        Message::Start => true,
-        Message::Enter(_) => true,
+        Message::Start | Message::Enter(_) => true,
         Message::Propose(p) => seated(p.head),
-        Message::Acknowledge(a) => seated(a.head),
-        Message::Cast(r) => seated(row_head(r)),
+        Message::Acknowledge(a) | Message::Confirm(a) => seated(a.head),
+        Message::Cast(r) => seated(Head::of(r)),
         Message::Ask(q) => seated(q.head) & ((q.count as u32) <= TOP_COUNT),
-        Message::Confirm(a) => seated(a.head),
     }
 }
 
-// ---- a tab and a field, from `at` on; each gives the place behind it
+// ---- a tab and a field, from `at` on; each gives the place behind it. (Four alike, of three lines: what is put differs, and over a
+// closure that puts it the contract would be longer than they are. `s` and `at` are no struct, as in read.rt.)
+#[tactic(auto, using(text::specs::DecimalLaws::width_le))]
 fn put_number(s: &mut [u8], at: usize, x: u64) -> usize
     requires { at ≤ 1024 }
     ensures { (Puts s.old at (tabbed (decimal x ∷ [])) result s.new) × (result ≤ at + 50) }
@@ -143,11 +124,9 @@ fn put_head(s: &mut [u8], at: usize, h: Head) -> usize
     requires { at ≤ 256 }
     ensures { (Puts s.old at (tabbed (head h [])) result s.new) × (result ≤ at + 150) }
 {
-    let seat = h.seat;
-    let view = h.view;
-    let a = put_number(s, at, seat.0 as u64);
+    let a = put_number(s, at, h.seat.0 as u64);
     let b = put_mark(s, a, h.verified);
-    put_number(s, b, view.0 as u64)
+    put_number(s, b, h.view.0 as u64)
 }
 
 fn put_vote(s: &mut [u8], at: usize, x: Vote) -> usize
@@ -157,8 +136,7 @@ fn put_vote(s: &mut [u8], at: usize, x: Vote) -> usize
     if !x.cast {
         return put_mark(s, at, false);
     }
-    let u = x.view;
-    let a = put_number(s, at, u.0 as u64);
+    let a = put_number(s, at, x.view.0 as u64);
     let b = put_entry(s, a, x.entry);
     let c = put_mask(s, b, x.mask);
     put_mark(s, c, x.verified)
@@ -197,7 +175,7 @@ fn put_row(s: &mut [u8], at: usize, x: Row) -> usize
     requires { at ≤ 256 }
     ensures { (Puts s.old at (tabbed (fields (Cast x))) result s.new) × (result ≤ at + 400) }
 {
-    let a = put_head(s, at, row_head(x));
+    let a = put_head(s, at, Head::of(x));
     put_vote(s, a, x.vote)
 }
 
@@ -209,10 +187,9 @@ fn put_fields(s: &mut [u8], at: usize, m: Message) -> usize
         Message::Start => at,
         Message::Enter(v) => put_number(s, at, v.0 as u64),
         Message::Propose(p) => put_proposal(s, at, p),
-        Message::Acknowledge(a) => put_assent(s, at, a),
+        Message::Acknowledge(a) | Message::Confirm(a) => put_assent(s, at, a),
         Message::Cast(r) => put_row(s, at, r),
         Message::Ask(q) => put_request(s, at, q),
-        Message::Confirm(a) => put_assent(s, at, a),
     }
 }
 
@@ -231,48 +208,22 @@ fn kind_of(m: Message) -> u8
     }
 }
 
-// Only where `go` says so; then there must be room.
-fn put_line_if(go: bool, s: &mut [u8], m: Message)
-    requires { go ≡ true → length (line m) ≤ length s.old }
-    ensures { s.new ≡ cond go (lent s.old (line m)) s.old }
-{
-    if !go {
-        return;
-    }
-    put_byte(s, 0, kind_of(m));
-    let end = put_fields(s, 1, m);
-    put_byte(s, end, LF);
-}
-
 // 21 first: a message that has no line is not one whose line is too long.
-fn writer_number(can: bool, room: usize, n: usize) -> u8
-    ensures { result ≡ first (writer_refusals can room n) }
+fn check_line(can: bool, room: usize, n: usize) -> Result<(), Refusal>
+    ensures { result ≡ judged (writer_refusals can room n) }
 {
-    pick(!can, 21, pick(room < n, 20, 0))
+    refuse_if(!can, Refusal::Unwritable)?;
+    refuse_if(room < n, Refusal::Room)
 }
 
-fn told(number: u8, n: usize) -> Written
-    ensures { result ≡ told number n }
-{
-    if number == 0 {
-        Written {
-            number: number,
-            length: n,
-        }
-    } else {
-        Written {
-            number: number,
-            length: 0,
-        }
-    }
-}
-
-// The line of m at the front of buf. Where m has none (21), or it does not fit (20), no byte is touched.
-pub fn write_line(buf: &mut [u8], m: Message) -> Written
+// The line of m at the front of buf, and how long it is. Where m has none (21), or it does not fit (20), no byte is touched.
+pub fn write_line(buf: &mut [u8], m: Message) -> Result<usize, Refusal>
     ensures { (result ≡ written buf.old m) × (buf.new ≡ afterwards buf.old m) }
 {
     let n = line_length(m);
-    let number = writer_number(writable(m), buf.len(), n);
-    put_line_if(number == 0, buf, m);
-    told(number, n)
+    check_line(writable(m), buf.len(), n)?;
+    put_byte(buf, 0, kind_of(m));
+    let end = put_fields(buf, 1, m);
+    put_byte(buf, end, LF);
+    Ok(n)
 }

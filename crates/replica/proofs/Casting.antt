@@ -1,43 +1,41 @@
--- V: how many rows a request has, the table written piece by piece, and the step.
+-- V: how many rows a request has, and the step.
 use Prim.Native.Nat.{ℕ, ◌≤◌}
 use mathlib.Core.Path.{◌≡◌, refl, sym, ap, ap₂, ◌∙◌}
-use mathlib.Core.Bool.{Bool, true, false, not, ◌&&◌, cond}
-use mathlib.Core.List.{List, ◌++◌}
+use mathlib.Core.Bool.{Bool, true, false, not, cond}
+use mathlib.Core.List.{◌++◌}
 use mathlib.Core.Logic.{inl, inr}
 use native.Mathlib.Omega.{arith}
 use lib.Dec.{eqb, leb}
 use borrow.Author.Tests.{eqb-true, le-leb, leb-true}
-use Rattle.base.specs.Refusal.{Refusals, first}
-use Rattle.base.specs.RefusalLaws.{first_none}
+use Rattle.std.specs.Prelude.{Option, None, Ok, is_some, unwrap_or}
+use Rattle.std.specs.Bool.{then_some}
+use Rattle.std.specs.Result.{result_unwrap_or}
+use Rattle.base.specs.Refusal.{Refusals, judged}
+use Rattle.base.specs.RefusalLaws.{first_none, judged_none}
 use Rattle.base.specs.Tests.{is_true}
 use Rattle.entry.specs.declared.Entry.{Entry}
-use Rattle.entry.specs.Table.{with_entry}
+use Rattle.seats.specs.declared.Seat.{Seat}
 use Rattle.seats.specs.declared.View.{View}
 use Rattle.seats.specs.Seats.{count}
-use Rattle.seats.specs.Mask.{bit, mask, seats_in, with_seat, put_seat}
+use Rattle.seats.specs.Mask.{bit, mask, seats_in}
 use Rattle.seats.specs.Count.{count_le}
 use Rattle.seats.specs.Marks.{marks_mask, marks_seats, seats_none}
 use Rattle.seats.specs.SizeLaws.{sizes_take}
 use Rattle.votes.specs.declared.Row.{Row}
-use Rattle.votes.specs.declared.Vote.{Vote}
 use Rattle.votes.specs.declared.VoteRows.{VoteRows}
 use Rattle.votes.specs.declared.Choice.{Choice}
-use Rattle.votes.specs.declared.Selected.{Selected}
 use Rattle.votes.specs.Selection.{selection}
-use Rattle.votes.specs.Rows.{votes_of, table_of, vote_at, has_row, with_number, with_vote, call_number, chosen}
+use Rattle.votes.specs.Rows.{vote_at, has_row, with_vote, call_refusals, call_number, chosen}
 use Rattle.votes.specs.RowLaws.{call_after_sizes, answered_taken}
-use Rattle.votes.specs.TableLaws.{stored, with_past}
-use Rattle.messages.specs.declared.Head.{Head}
+use Rattle.votes.specs.TableLaws.{with_past}
 use Rattle.messages.specs.declared.Message.TheVariants.{Ask}
 use Rattle.replica.specs.declared.Replica.{Replica}
-use Rattle.replica.specs.declared.Decided.{Decided}
-use Rattle.replica.specs.declared.Sent.{Sent}
 use Rattle.replica.specs.declared.Step.{Step}
 use Rattle.replica.specs.Refusals.{asking, cast_refusals}
 use Rattle.replica.specs.Replica.{standing, own_refusals, number_for, with_stage, with_lead}
-use Rattle.replica.specs.Choices.{choice_of, settled, entry_chosen}
+use Rattle.replica.specs.Choices.{asked_for}
 use Rattle.replica.specs.Steps.{step_of, refused, head_of, voted, filled_by, chooses, selection_of, collected, cast_step}
-use Rattle.replica.proofs.Answered.{number_is, answered_is}
+use Rattle.replica.proofs.Answered.{answered_is}
 use Rattle.replica.proofs.Taken.{number_allowed}
 
 -- ---- how many rows a request has
@@ -54,22 +52,17 @@ rows_counted n f v t m e = ap seats_in e ∙ go (leb n 64) refl
     go true l = marks_seats (leb-true n 64 l) (marks_mask n (has_row n f v t))
     go false l = seats_none
 
--- ---- the table, written one array after the other
-pub pieces : (t : VoteRows) (k : ℕ) (x : Vote) (filled cast verified : ℕ) (entries masks views : List ℕ) → filled ≡ with_seat t.filled k
-    → cast ≡ put_seat t.votes.cast k x.cast → verified ≡ put_seat t.votes.verified k x.verified
-    → entries ≡ with_entry t.votes.entries k x.entry → masks ≡ with_number t.votes.masks k x.mask
-    → views ≡ with_number t.votes.views k x.view.0 → table_of filled (votes_of cast verified entries masks views) ≡ with_vote t k x
-pieces t k x filled cast verified entries masks views ef ec ew ee em ev = simp (ef, ec, ew, ee, em, ev) (stored t k x)
-
 -- ---- the step
 
 -- A selection that is not refused is the five steps over the table.
-choice_made : (n f : ℕ) (v : View) (t : VoteRows) → call_number n f v ≡ 0 → choice_of (chosen n f v t) ≡ selection n f (has_row n f v t) (vote_at t.votes)
+choice_made : (n f : ℕ) (v : View) (t : VoteRows) → call_number n f v ≡ 0
+    → result_unwrap_or (chosen n f v t) Choice.Wait ≡ selection n f (has_row n f v t) (vote_at t.votes)
 unfolding chosen
-choice_made n f v t h = ap choice_of (sym (answered_taken (call_number n f v) (Selected.Chosen (selection n f (has_row n f v t) (vote_at t.votes))) h))
+choice_made n f v t h = ap (λ x. result_unwrap_or x Choice.Wait)
+    (sym (answered_taken (judged (call_refusals n f v)) (Ok (selection n f (has_row n f v t) (vote_at t.votes))) (judged_none (call_refusals n f v) tt h)))
 
 module _ (s : Replica) (r : Row) where
-  abbrev refusals : Refusals
+  abbrev pub refusals : Refusals
   refusals = cast_refusals (standing s) (voted s r.seat.0) r
 
   -- Neither 5 nor 8 applies: the current view is not 0.
@@ -90,56 +83,43 @@ module _ (s : Replica) (r : Row) where
       call_after_sizes s.n s.f s.view
       ∙ ap₂ (λ (k : ℕ) b. cond (eqb k 0) (cond b 5 0) k) (sizes_take s.n s.f (number_allowed s refusals e)) (view_some e)
 
-  -- The step in the code's own shape, of the table written and the choice.
-  abbrev made : ℕ → VoteRows → Choice → Step
-  made number t c =
-      step_of number (with_stage (with_lead s t (entry_chosen c s.own s.chosen) s.confirmed) (cond (settled c) asking s.stage.0)) Decided.Nothing
-      (cond (settled c)
-      (Sent.Message (Ask (record {
+  -- The step in the code's own shape, of the table written and the entry to ask for.
+  abbrev made : ℕ → VoteRows → Option Entry → Step
+  made k t e =
+      step_of k (with_stage (with_lead s t (unwrap_or e s.chosen) s.confirmed) (cond (is_some e) asking s.stage.0)) None
+      (then_some (is_some e) (Ask (record {
         head = head_of s s.view;
-        entry = entry_chosen c s.own s.chosen;
-        count = cond (settled c && leb s.n 64) (count (has_row s.n s.f s.view t) s.n) 0;
+        entry = unwrap_or e s.chosen;
+        count = cond (is_some e) (cond (leb s.n 64) (count (has_row s.n s.f s.view t) s.n) 0) 0;
       })))
-      Sent.Nothing)
 
-  made_chooses : (t : VoteRows) (c : Choice) → s.n ≤ 64 → made 0 t c ≡ chooses (with_lead s t s.chosen s.confirmed) c
+  made_chooses : (t : VoteRows) (c : Choice) → s.n ≤ 64 → made 0 t (asked_for c s.own) ≡ chooses (with_lead s t s.chosen s.confirmed) c
   made_chooses t Choice.Wait h = refl
   made_chooses t Choice.Free h = simp (le-leb s.n 64 h)
   made_chooses t (Choice.Forced e) h = simp (le-leb s.n 64 h)
 
-  module _ (number place : ℕ) (t : VoteRows) (c : Choice) (en : number ≡ number_for s refusals) (ep : place ≡ cond (eqb number 0) r.seat.0 64)
-      (et : t ≡ with_vote s.votes place r.vote) (ec : c ≡ cond (eqb number 0) (choice_of (chosen s.n s.f s.view t)) Choice.Wait) where
-    taken : eqb number 0 ≡ true → made number t c ≡ collected (filled_by s r)
+  module _ (k : ℕ) (place : Seat) (t : VoteRows) (c : Choice) (en : k ≡ number_for s refusals) (ep : place ≡ cond (eqb k 0) r.seat (record { 0 = 64 }))
+      (et : t ≡ with_vote s.votes place.0 r.vote) (ec : c ≡ cond (eqb k 0) (result_unwrap_or (chosen s.n s.f s.view t) Choice.Wait) Choice.Wait) where
+    written : (b : Bool) → eqb k 0 ≡ b → t ≡ with_vote s.votes (cond b r.seat (record { 0 = 64 })).0 r.vote
+    written b q = et ∙ ap (λ (x : Seat). with_vote s.votes x.0 r.vote) (ep ∙ ap (λ x. cond x r.seat (record { 0 = 64 })) q)
+
+    taken : eqb k 0 ≡ true → made k t (asked_for c s.own) ≡ collected (filled_by s r)
     unfolding collected selection_of
     taken b =
-        let z : number ≡ 0 = eqb-true number 0 b in
+        let z : k ≡ 0 = eqb-true k 0 b in
         let zero = sym en ∙ z in
-        let w : t ≡ with_vote s.votes r.seat.0 r.vote = et ∙ ap (λ k. with_vote s.votes k r.vote) (ep ∙ ap (λ x. cond x r.seat.0 64) b) in
         let d : c ≡ selection_of (filled_by s r) =
-        ec ∙ ap₂ (λ x y. cond x (choice_of (chosen s.n s.f s.view y)) Choice.Wait) b w
+        ec ∙ ap₂ (λ x y. cond x (result_unwrap_or (chosen s.n s.f s.view y) Choice.Wait) Choice.Wait) b (written true b)
         ∙ choice_made s.n s.f s.view (with_vote s.votes r.seat.0 r.vote) (call_none zero) in
-        ap (λ k. made k t c) z
-        ∙ ap₂ (made 0) w d
+        ap (λ i. made i t (asked_for c s.own)) z
+        ∙ ap₂ (λ y x. made 0 y (asked_for x s.own)) (written true b) d
         ∙ made_chooses (with_vote s.votes r.seat.0 r.vote) (selection_of (filled_by s r)) (number_allowed s refusals zero).most
 
-    kept : eqb number 0 ≡ false → made number t c ≡ refused number s
+    kept : eqb k 0 ≡ false → made k t (asked_for c s.own) ≡ refused k s
     kept b =
-        ap₂ (made number)
-        (et ∙ ap (λ k. with_vote s.votes k r.vote) (ep ∙ ap (λ x. cond x r.seat.0 64) b) ∙ with_past s.votes 64 r.vote (omega arith))
-        (ec ∙ ap (λ x. cond x (choice_of (chosen s.n s.f s.view t)) Choice.Wait) b)
+        ap₂ (λ y x. made k y (asked_for x s.own)) (written false b ∙ with_past s.votes 64 r.vote (omega arith))
+        (ec ∙ ap (λ x. cond x (result_unwrap_or (chosen s.n s.f s.view t) Choice.Wait) Choice.Wait) b)
 
-    made_is : made number t c ≡ cast_step s r
+    pub made_is : made k t (asked_for c s.own) ≡ cast_step s r
     unfolding cast_step
-    made_is = answered_is s refusals (collected (filled_by s r)) (made number t c) number en taken kept
-
-  pub cast_is : (held : Bool) (setup k number place : ℕ) (t : VoteRows) (c : Choice) (asks : Bool) (rows stage : ℕ) (e : Entry) (h : Head) (sent : Sent)
-      → held ≡ voted s r.seat.0 → setup ≡ first (own_refusals s) → k ≡ first (cast_refusals (standing s) held r)
-      → number ≡ cond (eqb setup 0) k setup → place ≡ cond (eqb number 0) r.seat.0 64 → t ≡ with_vote s.votes place r.vote
-      → c ≡ cond (eqb number 0) (choice_of (chosen s.n s.f s.view t)) Choice.Wait → asks ≡ settled c
-      → rows ≡ cond (asks && leb s.n 64) (count (has_row s.n s.f s.view t) s.n) 0 → e ≡ entry_chosen c s.own s.chosen
-      → stage ≡ cond asks asking s.stage.0 → h ≡ head_of s s.view
-      → sent ≡ cond asks (Sent.Message (Ask (record { head = h; entry = e; count = rows }))) Sent.Nothing
-      → step_of number (with_stage (with_lead s t e s.confirmed) stage) Decided.Nothing sent ≡ cast_step s r
-  cast_is held setup k number place t c asks rows stage e h sent eh es ek en ep et ec ea er ee eg ed em =
-      simp (em, ed, eg, ee, er, ea)
-      (made_is number place t c (en ∙ number_is s refusals setup k es (ek ∙ ap (λ b. first (cast_refusals (standing s) b r)) eh)) ep et ec)
+    made_is = answered_is s refusals (collected (filled_by s r)) (made k t (asked_for c s.own)) k en taken kept

@@ -8,23 +8,22 @@ use lib.Dec.{eqb, leb}
 use lib.Bits.{bit_and}
 use mir.Val.{bool_byte}
 use borrow.Author.Tests.{eqb-true}
-use Rattle.base.specs.Refusal.{Refusals, first}
+use Rattle.std.specs.Prelude.{None, Some}
+use Rattle.std.specs.Bool.{then_some}
+use Rattle.base.specs.Refusal.{Refusals}
+use Rattle.seats.specs.declared.Seat.{Seat}
 use Rattle.seats.specs.Seats.{b2n, count}
 use Rattle.seats.specs.Mask.{bit, mask, packed, rows_of, seats_in, with_seat}
 use Rattle.seats.specs.Bits.{bit_half, bit_low, with_past}
 use Rattle.seats.specs.Marks.{Marks, marks_below, marks_seats}
 use Rattle.seats.specs.Certificate.{signers}
-use Rattle.messages.specs.declared.Message.TheVariants.{Propose}
 use Rattle.messages.specs.declared.Assent.{Assent}
-use Rattle.messages.specs.declared.Proposal.{Proposal}
 use Rattle.replica.specs.declared.Replica.{Replica}
-use Rattle.replica.specs.declared.Decided.{Decided}
-use Rattle.replica.specs.declared.Sent.{Sent}
 use Rattle.replica.specs.declared.Step.{Step}
 use Rattle.replica.specs.Refusals.{proposed, confirm_refusals}
-use Rattle.replica.specs.Replica.{standing, own_refusals, number_for, with_stage, with_lead}
-use Rattle.replica.specs.Steps.{step_of, refused, head_of, proposal_of, confirmed_by, certified, confirm_step}
-use Rattle.replica.proofs.Answered.{number_is, answered_is}
+use Rattle.replica.specs.Replica.{standing, number_for, with_stage, with_lead}
+use Rattle.replica.specs.Steps.{step_of, refused, proposal_of, confirmed_by, certified, confirm_step}
+use Rattle.replica.proofs.Answered.{answered_is}
 use Rattle.replica.proofs.Taken.{number_allowed}
 
 -- ---- a mask is known by its bits
@@ -48,22 +47,22 @@ mask_known {n} {m} {p} a = packed_known p n m 0 a.below (λ j l. a.at j l ∙ ap
 
 -- ---- the step
 module _ (s : Replica) (c : Assent) where
-  abbrev refusals : Refusals
+  abbrev pub refusals : Refusals
   refusals = confirm_refusals (standing s) s.confirmed s.chosen c
 
   -- The step in the code's own shape, of the seats that confirmed, those that count, and whether they are enough.
   abbrev made : ℕ → ℕ → ℕ → Bool → Step
   made number m counted enough =
-      step_of number (with_stage (with_lead s s.votes s.chosen m) (cond enough proposed s.stage.0)) Decided.Nothing
-      (cond enough (Sent.Message (proposal_of s s.view s.chosen counted)) Sent.Nothing)
+      step_of number (with_stage (with_lead s s.votes s.chosen m) (cond enough proposed s.stage.0)) None
+      (then_some enough (proposal_of s s.view s.chosen counted))
 
   abbrev joined : ℕ
   joined = with_seat s.confirmed c.head.seat.0
 
-  module _ (number place below : ℕ) (en : number ≡ number_for s refusals) (ep : place ≡ cond (eqb number 0) c.head.seat.0 64)
+  module _ (number : ℕ) (place : Seat) (below : ℕ) (en : number ≡ number_for s refusals) (ep : place ≡ cond (eqb number 0) c.head.seat (record { 0 = 64 }))
       (eb : below ≡ mask (λ k. true) (rows_of s.n)) where
     abbrev written : ℕ
-    written = with_seat s.confirmed place
+    written = with_seat s.confirmed place.0
 
     abbrev counted : ℕ
     counted = bit_and below written
@@ -75,7 +74,7 @@ module _ (s : Replica) (c : Assent) where
     unfolding certified
     taken t =
         let z : number ≡ 0 = eqb-true number 0 t in
-        let w : written ≡ joined = ap (with_seat s.confirmed) (ep ∙ ap (λ b. cond b c.head.seat.0 64) t) in
+        let w : written ≡ joined = ap (λ (x : Seat). with_seat s.confirmed x.0) (ep ∙ ap (λ b. cond b c.head.seat (record { 0 = 64 })) t) in
         let few = (number_allowed s refusals (sym en ∙ z)).most in
         let marks = marks_below s.n below joined few eb in
         let mk : counted ≡ mask (bit joined) s.n = ap (bit_and below) w ∙ mask_known marks in
@@ -86,25 +85,16 @@ module _ (s : Replica) (c : Assent) where
         ∙ go (leb (signers s.f) (count (bit joined) s.n))
       where
         go : (b : Bool) → made 0 joined (mask (bit joined) s.n) b
-            ≡ cond b (step_of 0 (with_stage (confirmed_by s c) proposed) Decided.Nothing (Sent.Message (proposal_of s s.view s.chosen (mask (bit joined) s.n))))
-            (step_of 0 (confirmed_by s c) Decided.Nothing Sent.Nothing)
+            ≡ cond b (step_of 0 (with_stage (confirmed_by s c) proposed) None (Some (proposal_of s s.view s.chosen (mask (bit joined) s.n))))
+            (step_of 0 (confirmed_by s c) None None)
         go true = refl
         go false = refl
 
     kept : eqb number 0 ≡ false → made number written counted enough ≡ refused number s
     kept t =
         ap₂ (λ m b. made number m counted (b && leb (signers s.f) (seats_in counted)))
-        (ap (with_seat s.confirmed) (ep ∙ ap (λ b. cond b c.head.seat.0 64) t) ∙ with_past s.confirmed 64 (omega arith)) t
+        (ap (λ (x : Seat). with_seat s.confirmed x.0) (ep ∙ ap (λ b. cond b c.head.seat (record { 0 = 64 })) t) ∙ with_past s.confirmed 64 (omega arith)) t
 
-    made_is : made number written counted enough ≡ confirm_step s c
+    pub made_is : made number written counted enough ≡ confirm_step s c
     unfolding confirm_step
     made_is = answered_is s refusals (certified (confirmed_by s c)) (made number written counted enough) number en taken kept
-
-  pub confirm_is : (setup k number place m below q stage : ℕ) (told : Proposal) (sent : Sent) → setup ≡ first (own_refusals s) → k ≡ first refusals
-      → number ≡ cond (eqb setup 0) k setup → place ≡ cond (eqb number 0) c.head.seat.0 64 → m ≡ with_seat s.confirmed place
-      → below ≡ mask (λ k. true) (rows_of s.n) → q ≡ seats_in (bit_and below m) → stage ≡ cond (eqb number 0 && leb (s.f + 1) q) proposed s.stage.0
-      → told ≡ record { head = head_of s s.view; entry = s.chosen; mask = bit_and below m }
-      → sent ≡ cond (eqb number 0 && leb (s.f + 1) q) (Sent.Message (Propose told)) Sent.Nothing
-      → step_of number (with_stage (with_lead s s.votes s.chosen m) stage) Decided.Nothing sent ≡ confirm_step s c
-  confirm_is setup k number place m below q stage told sent es ek en ep em eb eq eg et ed =
-      simp (ed, et, eg, eq, em) (made_is number place below (en ∙ number_is s refusals setup k es ek) ep eb)

@@ -1,14 +1,14 @@
 -- What each public function answers, of its contract as the toolchain holds it: nothing is asked, and this is the answer. The code and the
 -- theorems about runs speak of one thing: the answer of each event's method is `step`, of which the runs are made.
 use borrow.Fn.World.{World}
-use lib.Dec.{eqb}
 use lib.IntN.{pos}
 use mathlib.Core.Bool.{cond}
 use mathlib.Core.List.{[]}
 use mathlib.Core.Path.{refl}
-use Rattle.acks.specs.Acks.{acks_of, margin, row_of}
+use Rattle.std.specs.Prelude.{eqb}
+use Rattle.acks.specs.Acks.{margin, row_of}
 use Rattle.base.specs.ExactContracts.{Exact, gives}
-use Rattle.base.specs.Refusal.{first}
+use Rattle.base.specs.Refusal.{judged}
 use Rattle.messages.specs.declared.Message.TheVariants.{Start, Enter, Propose, Acknowledge, Cast, Ask, Confirm}
 use Rattle.replica.specs.Refusals.{setup_refusals}
 use Rattle.replica.specs.Steps.{answer_of, ask_with, setup_step, step}
@@ -77,9 +77,9 @@ module _ (w : World) where
   answer_says κs a = refl
 
   pub margin_of_says : Exact w fn.events.margin_of.ended fn.events.margin_of.spec
-      (λ κs (setup, (entries, (views, (n, (f, _))))). gives (cond (eqb setup 0) (margin n f (row_of (acks_of entries.now views.now))) (pos 0)))
+      (λ κs (setup, (acks, (n, (f, _)))). gives (cond (eqb setup 0) (margin n f (row_of acks.now)) (pos 0)))
   margin_of_says κs a = refl
 
-  pub setup_number_says : Exact w fn.numbers.setup_number.ended fn.numbers.setup_number.spec
-      (λ κs (n, (f, (s, (own, _)))). gives (first (setup_refusals n f s own)))
-  setup_number_says κs a = refl
+  pub check_setup_says : Exact w fn.refusals.check_setup.ended fn.refusals.check_setup.spec
+      (λ κs (n, (f, (s, (own, _)))). gives (judged (setup_refusals n f s own)))
+  check_setup_says κs a = refl

@@ -1,13 +1,8 @@
 pub mod Acknowledging
 pub mod Answered
-pub mod Asking
 pub mod Begun
 pub mod Casting
 pub mod Confirming
 pub mod Contracts
-pub mod Entering
 pub mod Methods
-pub mod OwnNumber
-pub mod Proposing
-pub mod Starting
 pub mod Taken

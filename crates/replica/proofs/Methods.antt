@@ -4,8 +4,8 @@ use Prim.Native.Nat.{ℕ, zero, suc, ◌+◌, ◌<◌}
 use mathlib.Core.Path.{◌≡◌, refl, ap, ap₂}
 use mathlib.Core.List.{List, []}
 use native.Mathlib.Omega.{arith}
+use Rattle.std.specs.Prelude.{Option}
 use Rattle.votes.specs.declared.Row.{Row}
-use Rattle.votes.specs.declared.SeatRow.{SeatRow}
 use Rattle.votes.specs.Rows.{no_rows, gathered}
 use Rattle.votes.specs.Request.{row_sent, row_list, sent_from, rows_sent}
 use Rattle.messages.specs.declared.Request.{Request}
@@ -32,17 +32,17 @@ gathered_step = gathered_asked
 -- ---- the rows of a Q that goes out, from what `request_row` tells of each seat
 
 -- Those of seats k, k + 1, .., d of them asked.
-abbrev pub listed : (ℕ → SeatRow) → ℕ → ℕ → List Row
+abbrev pub listed : (ℕ → Option Row) → ℕ → ℕ → List Row
 listed told k zero = []
 listed told k (suc d) = row_list (told k) (listed told (suc k) d)
 
-listed_from : (s : Replica) (told : ℕ → SeatRow) (k d : ℕ) → ((j : ℕ) → j < k + d → told j ≡ row_sent s.n s.f s.view s.votes (record { 0 = j }))
+listed_from : (s : Replica) (told : ℕ → Option Row) (k d : ℕ) → ((j : ℕ) → j < k + d → told j ≡ row_sent s.n s.f s.view s.votes (record { 0 = j }))
     → listed told k d ≡ sent_from s.n s.f s.view s.votes k d
 listed_from s told k zero tells = refl
 listed_from s told k (suc d) tells = ap₂ row_list (tells k (omega arith)) (listed_from s told (suc k) d (λ j l. tells j (omega arith)))
 
 -- Asked seat after seat about the arrays of the replica, the function gives the rows that the run sends.
-pub rows_listed : (s : Replica) (told : ℕ → SeatRow) → ((j : ℕ) → j < s.n → told j ≡ row_sent s.n s.f s.view s.votes (record { 0 = j }))
+pub rows_listed : (s : Replica) (told : ℕ → Option Row) → ((j : ℕ) → j < s.n → told j ≡ row_sent s.n s.f s.view s.votes (record { 0 = j }))
     → listed told 0 s.n ≡ request_rows s
 unfolding rows_sent
 rows_listed s told tells = listed_from s told 0 s.n (λ j l. tells j (omega arith))

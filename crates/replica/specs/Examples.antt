@@ -1,5 +1,7 @@
 -- 01, "Examples at the edges": those marked * are proved, by one statement over one list.
-use Rattle.std.specs.Prelude.{ℕ, ◌≡◌, refl, true, List, [], ◌∷◌}
+use Rattle.std.specs.Prelude.{ℕ, ◌≡◌, refl, true, List, [], ◌∷◌, Result, Ok, Err}
+use Rattle.base.specs.declared.refusal.Refusal.{Refusal}
+use Rattle.base.specs.Refusal.{number}
 use Rattle.entry.specs.declared.Entry.{Entry}
 use Rattle.entry.specs.Entry.{well_formed, same, less}
 use Rattle.seats.specs.Seats.{count, highest}
@@ -8,7 +10,6 @@ use Rattle.seats.specs.Mask.{bit, seats_in}
 use Rattle.seats.specs.Certificate.{good_certificate}
 use Rattle.votes.specs.declared.Vote.{Vote}
 use Rattle.votes.specs.declared.Choice.{Choice}
-use Rattle.votes.specs.declared.Selected.{Selected}
 use Rattle.votes.specs.Vote.{valid}
 use Rattle.votes.specs.Selection.{smallest, top_view, two_at, rows_for, after_two, at_top, selection}
 use Rattle.votes.specs.Rows.{sound, selected}
@@ -71,9 +72,9 @@ member = entered (fresh 4 1 (record { 0 = 0 }) a) (record { 0 = 2 })
 abbrev request_for : Entry → Request
 request_for e = record { head = record { seat = record { 0 = 2 }; verified = true; view = record { 0 = 2 } }; entry = e; count = 3 }
 
-abbrev from_selected : Selected → Comes
-from_selected (Selected.Refused number) = gets number
-from_selected (Selected.Chosen c) = selects c
+abbrev from_selected : Result Choice Refusal → Comes
+from_selected (Ok c) = selects c
+from_selected (Err why) = gets (number why)
 
 -- By the definitions.
 abbrev pub comes : Given → Comes

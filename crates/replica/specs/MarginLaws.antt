@@ -1,7 +1,8 @@
 -- The margin of the first replicas, and that no event but a taken A changes it.
 use Rattle.std.specs.Prelude.{ℕ, ◌≡◌, refl, Bool, true, false, cond, List, T, eqb, leb, pos, ◌-ℤ◌}
 use Rattle.std.proofs.Common.{sym, ap, ◌∙◌, subst, inl, inr}
-use Rattle.base.specs.Refusal.{Refusals, first}
+use Rattle.base.specs.Refusal.{Refusals, first, number_of, judged}
+use Rattle.base.specs.RefusalLaws.{number_judged}
 use Rattle.base.specs.Tests.{true≢false}
 use Rattle.entry.specs.declared.Entry.{Entry}
 use Rattle.seats.specs.declared.Seat.{Seat}
@@ -22,7 +23,7 @@ use Rattle.messages.specs.declared.Request.{Request}
 use Rattle.replica.specs.declared.Replica.{Replica}
 use Rattle.replica.specs.declared.Step.{Step}
 use Rattle.replica.specs.Refusals.{proposed, setup_refusals}
-use Rattle.replica.specs.Replica.{fresh, blank, number_for, margin_of, with_stage}
+use Rattle.replica.specs.Replica.{fresh, blank, own_refusals, number_for, margin_of, with_stage}
 use Rattle.replica.specs.Steps.{refused, answered, start_step, enter_step, propose_step, acknowledge_step, cast_step, ask_step, ask_with, confirm_step}
 use Rattle.replica.specs.Steps.{quiet, saying, decides, decided_by, acknowledged, rowed, chooses, selection_of, collected, filled_by}
 use Rattle.replica.specs.Steps.{certified, confirmed_by, confirmers, proposal_of}
@@ -43,6 +44,11 @@ setup_margin n f s own e =
 pub blank_margin : margin_of blank ≡ pos 0
 unfolding margin_of
 blank_margin = refl
+
+-- The margin, by the number of setup's check.
+pub margin_told : (s : Replica) → margin_of s ≡ cond (eqb (number_of (judged (own_refusals s))) 0) (margin s.n s.f (row_of s.acks)) (pos 0)
+unfolding margin_of
+margin_told s = ap (λ (k : ℕ). cond (eqb k 0) (margin s.n s.f (row_of s.acks)) (pos 0)) (sym (number_judged (own_refusals s) tt))
 
 -- ---- the events: "What an event does not name stays as it was."
 

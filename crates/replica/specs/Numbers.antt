@@ -10,8 +10,7 @@ use Rattle.votes.specs.Request.{row_refusals}
 use Rattle.messages.specs.declared.Assent.{Assent}
 use Rattle.messages.specs.declared.Proposal.{Proposal}
 use Rattle.messages.specs.declared.Request.{Request}
-use Rattle.replica.specs.declared.Standing.{Standing}
-use Rattle.replica.specs.Refusals.{setup_refusals, start_refusals, enter_refusals, propose_refusals, acknowledge_refusals, cast_refusals, ask_refusals, confirm_refusals}
+use Rattle.replica.specs.Refusals.{Standing, setup_refusals, start_refusals, enter_refusals, propose_refusals, acknowledge_refusals, cast_refusals, ask_refusals, confirm_refusals}
 
 abbrev pub numbers : Refusals → List ℕ
 numbers = map (λ r. r.0)

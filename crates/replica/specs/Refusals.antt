@@ -17,7 +17,15 @@ use Rattle.messages.specs.declared.Assent.{Assent}
 use Rattle.messages.specs.declared.Proposal.{Proposal}
 use Rattle.messages.specs.declared.Request.{Request}
 use Rattle.messages.specs.Lines.{row_head}
-use Rattle.replica.specs.declared.Standing.{Standing}
+use Rattle.replica.specs.declared.Stage.{Stage}
+
+-- What of a replica the table asks most.
+pub record Standing : Type 0 where
+  pub n : ℕ
+  pub f : ℕ
+  pub seat : Seat
+  pub stage : Stage
+  pub view : View
 
 -- ---- "a stage: idle, collecting, asking, proposed"
 abbrev pub idle : ℕ

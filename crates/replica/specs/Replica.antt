@@ -11,8 +11,7 @@ use Rattle.votes.specs.declared.Vote.{Vote}
 use Rattle.votes.specs.declared.VoteRows.{VoteRows}
 use Rattle.votes.specs.Rows.{no_votes, zero_vote}
 use Rattle.replica.specs.declared.Replica.{Replica}
-use Rattle.replica.specs.declared.Standing.{Standing}
-use Rattle.replica.specs.Refusals.{idle, setup_refusals}
+use Rattle.replica.specs.Refusals.{Standing, idle, setup_refusals}
 
 -- ---- the first replicas
 

@@ -1,5 +1,5 @@
 -- 01, "Events": what each event makes of a replica.
-use Rattle.std.specs.Prelude.{ℕ, Bool, true, not, ◌&&◌, cond, List, ◌++◌, eqb, leb}
+use Rattle.std.specs.Prelude.{ℕ, Bool, true, not, ◌&&◌, cond, List, ◌++◌, eqb, leb, Option, None, Some}
 use Rattle.base.specs.Refusal.{Refusals, first}
 use Rattle.entry.specs.declared.Entry.{Entry}
 use Rattle.entry.specs.Entry.{zero_entry}
@@ -25,8 +25,6 @@ use Rattle.messages.specs.declared.Assent.{Assent}
 use Rattle.messages.specs.declared.Proposal.{Proposal}
 use Rattle.messages.specs.declared.Request.{Request}
 use Rattle.replica.specs.declared.Replica.{Replica}
-use Rattle.replica.specs.declared.Decided.{Decided}
-use Rattle.replica.specs.declared.Sent.{Sent}
 use Rattle.replica.specs.declared.Step.{Step}
 use Rattle.replica.specs.declared.Answer.{Answer}
 use Rattle.replica.specs.Refusals.{idle, collecting, asking, proposed, leads, setup_refusals}
@@ -36,12 +34,12 @@ use Rattle.replica.specs.Replica.{fresh, blank, standing, number_for, margin_of,
 
 -- ---- what every event has in common
 
-abbrev pub step_of : ℕ → Replica → Decided → Sent → Step
+abbrev pub step_of : ℕ → Replica → Option Entry → Option Message → Step
 step_of number s d m = record { next = s; number = number; decided = d; sent = m }
 
 -- "Every refusal returns the replica unchanged, sends nothing and decides nothing".
 abbrev pub refused : ℕ → Replica → Step
-refused number s = step_of number s Decided.Nothing Sent.Nothing
+refused number s = step_of number s None None
 
 -- "0 means taken."
 unfoldable pub answered : Replica → Refusals → Step → Step
@@ -49,10 +47,10 @@ answered s rs taken = cond (eqb (number_for s rs) 0) taken (refused (number_for 
 
 -- Taken, with nothing sent; and with a message sent.
 abbrev pub quiet : Replica → Step
-quiet s = step_of 0 s Decided.Nothing Sent.Nothing
+quiet s = step_of 0 s None None
 
 abbrev pub saying : Replica → Message → Step
-saying s m = step_of 0 s Decided.Nothing (Sent.Message m)
+saying s m = step_of 0 s None (Some m)
 
 -- "Messages go out with mark `+`."
 abbrev pub head_of : Replica → View → Head
@@ -113,7 +111,7 @@ unfoldable pub decides : Replica → Assent → Bool
 decides s a = leb (quorum s.n s.f) (sharing s.n (row_of s.acks) (ack_row a)) && not s.decided
 
 abbrev pub decided_by : Replica → Entry → Step
-decided_by s e = step_of 0 (with_decision s e) (Decided.Now e) Sent.Nothing
+decided_by s e = step_of 0 (with_decision s e) (Some e) None
 
 unfoldable pub acknowledged : Replica → Assent → Step
 acknowledged s a = cond (decides s a) (decided_by s a.entry) (quiet s)

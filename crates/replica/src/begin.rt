@@ -3,26 +3,32 @@ ghost use Rattle.std.specs.Prelude.{◌≡◌};
 ghost use Rattle.replica.specs.Replica.{fresh, blank};
 ghost use Rattle.replica.specs.Steps.{setup_step};
 
-use crate::numbers::setup_number;
-use crate::parts::no_vote;
-use crate::{Decided, IDLE, Replica, Sent, Stage, Step};
+use crate::refusals::check_setup;
+use crate::{IDLE, Replica, Stage, Step};
 use acks::Acks;
+use base::refusal::number_of;
 use entry::{Entry, zero};
 use seats::{Seat, View};
-use votes::VoteRows;
+use votes::{Vote, VoteRows};
 
 fn fresh(n: u8, f: u8, s: Seat, own: Entry) -> Replica
     ensures { result ≡ fresh n f s own }
 {
     Replica {
-        n: n,
-        f: f,
+        n,
+        f,
         seat: s,
         stage: Stage(IDLE),
         decided: false,
         view: View(1),
-        own: own,
-        vote: no_vote(),
+        own,
+        vote: Vote {
+            entry: zero(),
+            mask: 0,
+            view: View(0),
+            cast: false,
+            verified: false,
+        },
         decision: zero(),
         chosen: zero(),
         confirmed: 0,
@@ -35,30 +41,27 @@ fn fresh(n: u8, f: u8, s: Seat, own: Entry) -> Replica
 fn blank() -> Replica
     ensures { result ≡ blank }
 {
-    let mut s = fresh(0, 0, Seat(0), zero());
-    let v = View(0);
-    s.view = v;
-    s
+    Replica {
+        view: View(0),
+        ..fresh(0, 0, Seat(0), zero())
+    }
 }
 
 impl Replica {
+    // Four values and no struct: C hands them in one by one (`luscarembo_setup`).
     pub fn setup_step(n: u8, f: u8, s: Seat, own: Entry) -> Step
         ensures { result ≡ setup_step n f s own }
     {
-        let number = setup_number(n, f, s, own);
-        if number == 0 {
-            return Step {
-                next: fresh(n, f, s, own),
-                number: 0,
-                decided: Decided::Nothing,
-                sent: Sent::Nothing,
-            };
-        }
+        let number = number_of(check_setup(n, f, s, own));
         Step {
-            next: blank(),
-            number: number,
-            decided: Decided::Nothing,
-            sent: Sent::Nothing,
+            next: if number == 0 {
+                fresh(n, f, s, own)
+            } else {
+                blank()
+            },
+            number,
+            decided: None,
+            sent: None,
         }
     }
 }

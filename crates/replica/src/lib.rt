@@ -1,8 +1,7 @@
 // One replica: what it remembers, and what an event makes of it.
 #![tactic(auto)]
 
-pub mod numbers; // numbers.rt: numbers of refusal, event by event
-mod parts; // parts.rt: what steps are put together from
+pub mod refusals; // refusals.rt: why setup and each event refuse
 mod begin; // begin.rt: setup
 mod member; // member.rt: E, P, A, Q
 mod leader; // leader.rt: S, V, C
@@ -15,7 +14,8 @@ use messages::Message;
 use seats::{Seat, View};
 use votes::{Vote, VoteRows};
 
-// Idle, collecting, asking, proposed. Any other number is none of the four.
+// Idle, collecting, asking, proposed. No enum: C hands in any byte, and `reads_back` (station) hands the same one out. So a stage is told
+// by its number.
 #[derive(Clone, Copy)]
 pub struct Stage(pub u8);
 
@@ -27,6 +27,9 @@ const ASKING: u8 = 2;
 
 const PROPOSED: u8 = 3;
 
+// No table has a row for this seat: what is written there changes nothing.
+const NO_SEAT: Seat = Seat(64);
+
 // The tables stand last, and before them an entry that every event reads: so each is moved by itself, and seldom.
 #[derive(Clone, Copy)]
 pub struct Replica {
@@ -34,6 +37,7 @@ pub struct Replica {
     pub f: u8,
     pub seat: Seat,
     pub stage: Stage,
+    // Beside the decision, and no Option: C keeps what stands in an entry that does not count, as in a nil vote.
     pub decided: bool,
     pub view: View,
     pub vote: Vote,
@@ -46,44 +50,22 @@ pub struct Replica {
     pub votes: VoteRows,
 }
 
-// What of a replica the table of refusals asks most.
-#[derive(Clone, Copy)]
-pub struct Standing {
-    pub n: u8,
-    pub f: u8,
-    pub seat: Seat,
-    pub stage: Stage,
-    pub view: View,
-}
-
-// What an event decides, reported once.
-#[derive(Clone, Copy)]
-pub enum Decided {
-    Nothing,
-    Now(Entry),
-}
-
-// At most one message goes out. The rows of a request are told one by one, by `request_row`.
-#[derive(Clone, Copy)]
-pub enum Sent {
-    Nothing,
-    Message(Message),
-}
-
-// What an event makes of a replica: the next one, the number of refusal, what is decided and sent.
+// What an event makes of a replica: the next one, the number of refusal, what is decided, reported once, and what is sent: at most one
+// message, the rows of a request told one by one, by `request_row`.
 #[derive(Clone, Copy)]
 pub struct Step {
     pub next: Replica,
+    // Not by name: 01's answer has the number, 0 where taken; `start_numbers` and its like speak of it, `trace` prints it, C gets it.
     pub number: u8,
-    pub decided: Decided,
-    pub sent: Sent,
+    pub decided: Option<Entry>,
+    pub sent: Option<Message>,
 }
 
 #[derive(Clone, Copy)]
 pub struct Reply {
     pub number: u8,
-    pub decided: Decided,
-    pub sent: Sent,
+    pub decided: Option<Entry>,
+    pub sent: Option<Message>,
     pub margin: i32,
 }
 

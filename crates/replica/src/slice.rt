@@ -11,7 +11,6 @@ impl Replica {
     pub fn ask_over(self, q: Request, rows: &[Row]) -> Answer
         ensures { result ≡ answer_of (ask_step self q rows.now) }
     {
-        let t = slice::gather_over(self.n, self.f, q.head.view, rows);
-        self.ask(q, t)
+        self.ask(q, slice::gather_over(self.n, self.f, q.head.view, rows))
     }
 }

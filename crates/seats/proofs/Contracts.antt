@@ -2,11 +2,13 @@
 use borrow.Fn.World.{World}
 use mathlib.Core.Bool.{true}
 use mathlib.Core.Path.{refl}
-use Rattle.base.specs.ExactContracts.{Exact, gives}
+use Rattle.base.specs.ExactContracts.{Exact, ExactOver, becomes, gives}
 use Rattle.seats.specs.Certificate.{good_certificate}
 use Rattle.seats.specs.Mask.{bit, mask, put_seat, rows_of, seats_in, with_seat, within, without}
 use Rattle.seats.specs.Seats.{leader_of}
-use Rattle.seats.specs.Sizes.{most_faulty, quorum, seat_number, size_number}
+use Rattle.base.specs.Refusal.{judged}
+use Rattle.seats.specs.Sizes.{most_faulty, quorum, seat_refusals, size_refusals}
+use Rattle.seats.specs.Table.{value_at, with_value}
 use Rattle.seats.specs.contracts as fn
 
 module _ (w : World) where
@@ -44,11 +46,19 @@ module _ (w : World) where
   pub most_faulty_says : Exact w fn.sizes.most_faulty.ended fn.sizes.most_faulty.spec (λ κs (n, _). gives (most_faulty n))
   most_faulty_says κs a = refl
 
-  pub size_number_says : Exact w fn.sizes.size_number.ended fn.sizes.size_number.spec (λ κs (n, (f, _)). gives (size_number n f))
-  size_number_says κs a = refl
+  pub check_sizes_says : Exact w fn.sizes.check_sizes.ended fn.sizes.check_sizes.spec (λ κs (n, (f, _)). gives (judged (size_refusals n f)))
+  check_sizes_says κs a = refl
 
-  pub seat_number_says : Exact w fn.sizes.seat_number.ended fn.sizes.seat_number.spec (λ κs (n, (f, (s, _))). gives (seat_number n f s))
-  seat_number_says κs a = refl
+  pub check_seat_says : Exact w fn.sizes.check_seat.ended fn.sizes.check_seat.spec (λ κs (n, (f, (s, _))). gives (judged (seat_refusals n f s)))
+  check_seat_says κs a = refl
 
   pub quorum_says : Exact w fn.sizes.quorum.ended fn.sizes.quorum.spec (λ κs (n, (f, _)). gives (quorum n f))
   quorum_says κs a = refl
+
+  pub value_at_says : (T : _) (G : _) (d : _) → ExactOver w T 64 (fn.table.value_at.ended T G d) (fn.table.value_at.spec T G d)
+      (λ κs (t, (k, (none, _))). gives (value_at t.now k none))
+  value_at_says T G d κs a = refl
+
+  pub put_value_says : (T : _) (G : _) (d : _) → ExactOver w T 64 (fn.table.put_value.ended T G d) (fn.table.put_value.spec T G d)
+      (λ κs (t, (k, (x, _))). becomes (with_value t.now k x))
+  put_value_says T G d κs a = refl

@@ -1,1 +1,2 @@
 pub mod Contracts
+pub mod Masks

@@ -1,6 +1,7 @@
 -- Laws of one mask: its bits, and the machine's count of ones as the number of distinct seats.
-use Rattle.std.specs.Prelude.{◌≡◌, refl, Bool, true, false, not, ◌&&◌, ◌||◌, cond, ℕ, zero, suc, ◌+◌, ◌/◌, ◌%◌, ◌^◌, ◌≤◌, ◌<◌, eqb}
-use Rattle.std.proofs.Common.{sym, ap, ap₂, ◌∙◌, arith, pow-suc, mod-lt, mul_comm, div-one, lt_of_lt_of_le, add-one, lit<, shr_lt, pow_mono, lt-ltb, le-ltb}
+use Rattle.std.specs.Prelude.{◌≡◌, refl, Bool, true, false, not, ◌&&◌, ◌||◌, cond, ℕ, zero, suc, ◌+◌, ◌*◌, ◌/◌, ◌%◌, ◌^◌, ◌≤◌, ◌<◌, eqb, ltb}
+use Rattle.std.proofs.Math.Pow.{shl_exact}
+use Rattle.std.proofs.Common.{one-mul, sym, ap, ap₂, ◌∙◌, arith, pow-suc, mod-lt, mul_comm, div-one, lt_of_lt_of_le, add-one, lit<, shr_lt, pow_mono, lt-ltb, le-ltb}
 use Rattle.std.proofs.Math.Path.{fun_ext}
 use Rattle.std.proofs.Math.Nat.{div-div-eq-div-mul, div-eq_of_lt}
 use Rattle.std.proofs.Math.Dec.{eqb-suc-suc, eqb-suc-zero, eqb-zero-suc}
@@ -143,3 +144,11 @@ pub put_past : (m k : ℕ) (on : Bool) → 64 ≤ k → bit (put_seat m k on) �
 unfolding put_seat
 put_past m k true h = ap bit (with_past m k h)
 put_past m k false h = fun_ext (λ j. without_at m (with_seat 0 k) j ∙ ap (λ x. bit m j && not (bit x j)) (with_past 0 k h) ∙ ap (λ x. bit m j && not x) (bit_zero j) ∙ and_alone (bit m j))
+
+-- A shift of 1 within the width.
+pub shl_one : (k : ℕ) → k < 64 → 1 * 2 ^ k % 2 ^ 64 ≡ 2 ^ k
+shl_one k h = shl_exact 1 k 64 (lit< tt) (let z : 1 + k ≤ 64 = omega arith in z) ∙ one-mul _
+
+-- A number of 64 bits has no seat past 63.
+pub none_past : (m k : ℕ) → m < 2 ^ 64 → 64 ≤ k → ltb k 64 ≡ bit m k
+none_past m k h l = le-ltb k 64 l ∙ sym (bit_past 64 m k h l)

@@ -7,4 +7,6 @@ pub mod Bits
 pub mod Marks
 pub mod Past
 pub mod SizeLaws
+pub mod Table
+pub mod TableLaws
 pub mod Quorums

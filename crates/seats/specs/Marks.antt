@@ -9,7 +9,8 @@ use Rattle.std.proofs.Math.Pow.{pow-lt}
 use Rattle.std.specs.Int.Bits.{bit_and, bit_or}
 use Rattle.std.proofs.lemmas.Nat.{and_le_l, or_lt, xor_lt}
 use Rattle.std.specs.Int.Count.{ones, count_trailing_zeros, under}
-use mir.Val.{bool_byte}
+use mir.Val.{bool_byte, Fits}
+use mir.Syntax.{w64}
 use Rattle.base.specs.Tests.{and_l, and_r, and_i, T-dec, is_true, true≢false}
 use Rattle.seats.specs.Seats.{b2n, count}
 use Rattle.seats.specs.Count.{count_ext, count_mono, count_drop}
@@ -28,31 +29,67 @@ packed_lt p k (suc d) =
     let q : 2 ^ suc d ≡ 2 ^ d * 2 = pow-suc 2 d in
     omega (arith, byte_le (p k))
 
--- ---- a loop that goes down: m = 2 * m + (test(i) as u64)
-module _ (p : ℕ → Bool) (n : ℕ) where
-  pub packed_none : (i : ℕ) → i ≡ n → 0 ≡ packed p i (n - i)
+-- ---- a loop that goes down: m = 2 * m + u64::from(test(i)), whatever the test tells of a seat
+abbrev pub Tells : (ℕ → Bool → Type 0) → (ℕ → Bool) → ℕ → Type 0
+Tells told p n = (k : ℕ) (b : Bool) → k < n → told k b → b ≡ p k
+
+module _ (told : ℕ → Bool → Type 0) (n : ℕ) where
+  -- The seats from i to n are in the mask.
+  pub record Packing (i m : ℕ) : Type 0 where
+    pub within : i ≤ n
+    pub small : m < 2 ^ (n - i)
+    pub is : (p : ℕ → Bool) → Tells told p n → m ≡ packed p i (n - i)
+
+  pub packing_begin : (i : ℕ) → i ≡ n → Packing i 0
   unfolding packed
-  packed_none i e = let z : n - i ≡ 0 = omega arith in sym (ap (packed p i) z)
+  packing_begin i e =
+      let z : n - i ≡ 0 = omega arith in
+      record { within = omega arith; small = pow_pos (n - i); is = λ p t. sym (ap (packed p i) z) }
 
-  packed_more : (i m : ℕ) → 0 < i → i ≤ n → m ≡ packed p i (n - i) → 2 * m + bool_byte (p (i - 1)) ≡ packed p (i - 1) (n - (i - 1))
-  unfolding packed
-  packed_more i m h l e =
-      let a : n - (i - 1) ≡ suc (n - i) = omega arith in
-      let b : suc (i - 1) ≡ i = omega arith in
-      let c : packed p (i - 1) (n - (i - 1)) ≡ bool_byte (p (i - 1)) + 2 * packed p (suc (i - 1)) (n - i) = ap (packed p (i - 1)) a in
-      let d : packed p (suc (i - 1)) (n - i) ≡ packed p i (n - i) = ap (λ x. packed p x (n - i)) b in
-      omega arith
+  -- One seat more, of the flag that the test gives, and it still fits.
+  module _ (i m : ℕ) (h : 0 < i) (le : n ≤ 64) (k : Packing i m) where
+    next : (b : Bool) → 2 * m + bool_byte b < 2 ^ (n - (i - 1))
+    next b =
+        let l = k.within in
+        let s = k.small in
+        let a : n - (i - 1) ≡ suc (n - i) = omega arith in
+        let q : 2 ^ suc (n - i) ≡ 2 ^ (n - i) * 2 = pow-suc 2 (n - i) in
+        let r : 2 ^ (n - (i - 1)) ≡ 2 ^ suc (n - i) = ap (λ x. 2 ^ x) a in
+        omega (arith, byte_le b)
 
-  -- One seat more, of the flag that the code has, and it still fits.
-  pub packed_step : (i m : ℕ) → 0 < i → i ≤ n → n ≤ 64 → m ≡ packed p i (n - i) → (b : Bool) → b ≡ p (i - 1)
-      → (2 * m + bool_byte b ≡ packed p (i - 1) (n - (i - 1))) × (2 * m + bool_byte b < 2 ^ 64)
-  packed_step i m h l q e b eb =
-      let more : 2 * m + bool_byte b ≡ packed p (i - 1) (n - (i - 1)) = ap (λ x. 2 * m + bool_byte x) eb ∙ packed_more i m h l e in
-      let few : n - (i - 1) ≤ 64 = omega arith in
-      (more, subst (λ x. x < 2 ^ 64) (sym more) (lt_of_lt_of_le (packed_lt p (i - 1) (n - (i - 1))) (pow_mono few)))
+    next_fits : (b : Bool) → 2 * m + bool_byte b < 2 ^ 64
+    next_fits b = let few : n - (i - 1) ≤ 64 = omega arith in lt_of_lt_of_le (next b) (pow_mono few)
 
-  pub packed_all : (i m : ℕ) → i ≤ 0 → m ≡ packed p i (n - i) → m ≡ mask p n
-  packed_all i m h e = let z : i ≡ 0 = omega arith in let w : n - 0 ≡ n = omega arith in e ∙ ap (λ x. packed p x (n - x)) z ∙ ap (packed p 0) w
+    pub packing_doubles : Fits w64 (2 * m)
+    packing_doubles = omega (arith, next_fits false)
+
+    module _ (b : Bool) (x : ℕ) (e : x ≡ bool_byte b) where
+      pub packing_fits : Fits w64 (2 * m + x)
+      packing_fits = omega (arith, next_fits b)
+
+      pub packing_next : told (i - 1) b → Packing (i - 1) (2 * m + x)
+      unfolding packed
+      packing_next s =
+          let l = k.within in
+          record {
+            within = omega arith;
+            small = subst (λ y. 2 * m + y < 2 ^ (n - (i - 1))) (sym e) (next b);
+            is = λ p t.
+                let was = k.is p t in
+                let here : b ≡ p (i - 1) = t (i - 1) b (omega arith) s in
+                let byte : x ≡ bool_byte (p (i - 1)) = e ∙ ap bool_byte here in
+                let a : n - (i - 1) ≡ suc (n - i) = omega arith in
+                let j : suc (i - 1) ≡ i = omega arith in
+                let c : packed p (i - 1) (n - (i - 1)) ≡ bool_byte (p (i - 1)) + 2 * packed p (suc (i - 1)) (n - i) = ap (packed p (i - 1)) a in
+                let d : packed p (suc (i - 1)) (n - i) ≡ packed p i (n - i) = ap (λ y. packed p y (n - i)) j in
+                omega arith;
+          }
+
+  pub packing_end : (i m : ℕ) → i ≤ 0 → Packing i m → (p : ℕ → Bool) → Tells told p n → m ≡ mask p n
+  packing_end i m h k p t =
+      let z : i ≡ 0 = omega arith in
+      let w : n - 0 ≡ n = omega arith in
+      k.is p t ∙ ap (λ x. packed p x (n - x)) z ∙ ap (packed p 0) w
 
 -- ---- its bits
 half_is : (b : Bool) (x : ℕ) → (bool_byte b + 2 * x) / 2 ≡ x

@@ -1,13 +1,14 @@
 -- Laws of n and f: the largest f is what its name says, and what setup's numbers tell.
 use Rattle.std.specs.Prelude.{ℕ, zero, suc, ◌+◌, ◌/◌, ◌%◌, ◌≤◌, ◌<◌, Bool, true, false, not, ◌||◌, cond, [], ◌∷◌, ◌≡◌, refl, T, eqb, leb, ltb}
 use Rattle.std.proofs.Common.{sym, ap, ◌∙◌, subst, arith, mod-lt, leb→le, le→leb, eqb-true, leb-false, leb-true, ltb-false, le-leb, le-ltb, ne_eqb}
-use Rattle.std.proofs.Math.Decide.{ℕ_discrete}
-use Rattle.std.proofs.lemmas.Bool.{eqb-false}
-use Rattle.base.specs.RefusalLaws.{first_behind}
+use Rattle.std.proofs.Math.Decide.{ℕ_discrete, dec_lt}
+use Rattle.std.proofs.lemmas.Bool.{eqb-false, lt-leb}
+use Rattle.base.specs.Refusal.{number_of, judged}
+use Rattle.base.specs.RefusalLaws.{first_behind, number_judged}
 use Rattle.base.specs.Tests.{is_true, true_is, true≢false, and_true, or_false}
 use Rattle.seats.specs.declared.Seat.{Seat}
 use Rattle.seats.specs.Seats.{leader}
-use Rattle.seats.specs.Sizes.{size_allowed, fewest, size_refusals, bears, largest, most_faulty, size_number, seat_number}
+use Rattle.seats.specs.Sizes.{size_allowed, fewest, size_refusals, seat_refusals, bears, largest, most_faulty, size_number, seat_number}
 
 largest_passes : (p : ℕ → Bool) (b : ℕ) → T (p 0) → T (p (largest p b))
 largest_passes p zero z = z
@@ -53,6 +54,16 @@ largest_quotient n =
 pub most_quotient : (n : ℕ) → most_faulty n ≡ cond (size_allowed n) (quotient n) 0
 unfolding most_faulty
 most_quotient n = ap (λ f. cond (size_allowed n) f 0) (largest_quotient n)
+
+-- How the code counts it: below 4 the quotient is 0 by itself.
+pub few_seats : (n : ℕ) → n ≤ 64 → (n + 1) / 5 ≡ most_faulty n
+few_seats n h = elim (dec_lt n 4) [
+  | yes few ↦ simp (most_quotient n, lt-leb 4 n few) (omega arith)
+  | no enough ↦ simp (most_quotient n, le-leb 4 n (omega arith), le-leb n 64 h)
+]
+
+pub many_seats : (n : ℕ) → 64 < n → 0 ≡ most_faulty n
+many_seats n h = simp (most_quotient n, le-leb 4 n (omega arith), lt-leb n 64 h)
 
 -- The leader is one of the seats.
 pub leader_lt : (w n : ℕ) → 0 < n → leader w n < n
@@ -100,3 +111,12 @@ seat_taken n f s e = go (eqb (size_number n f) 0) refl (leb n s.0) refl (sym (se
     go true p true q z = absurd (omega arith)
     go true p false q z = (sizes_taken n f (eqb-true _ _ p), leb-false n s.0 q)
     go false p b q z = absurd (eqb-false _ _ p z)
+
+-- ---- by name: what is checked has these numbers
+pub sizes_numbered : (n f : ℕ) → number_of (judged (size_refusals n f)) ≡ size_number n f
+unfolding size_number
+sizes_numbered n f = number_judged (size_refusals n f) tt
+
+pub seat_numbered : (n f : ℕ) (s : Seat) → number_of (judged (seat_refusals n f s)) ≡ seat_number n f s
+unfolding seat_number
+seat_numbered n f s = number_judged (seat_refusals n f s) tt

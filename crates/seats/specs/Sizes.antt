@@ -31,8 +31,11 @@ unfoldable pub size_number : ℕ → ℕ → ℕ
 size_number n f = first (size_refusals n f)
 
 -- 3: "own seat is n or more"
+abbrev pub seat_refusals : ℕ → ℕ → Seat → Refusals
+seat_refusals n f s = size_refusals n f ++ ((3, leb n s.0) ∷ [])
+
 unfoldable pub seat_number : ℕ → ℕ → Seat → ℕ
-seat_number n f s = first (size_refusals n f ++ ((3, leb n s.0) ∷ []))
+seat_number n f s = first (seat_refusals n f s)
 
 -- n − f, the rows that a decision and a selection want
 abbrev pub quorum : ℕ → ℕ → ℕ

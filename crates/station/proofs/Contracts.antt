@@ -4,7 +4,7 @@ use lib.ListN.{length}
 use mathlib.Core.List.{[], ◌∷◌}
 use mathlib.Core.Path.{refl}
 use Rattle.base.specs.ExactContracts.{Exact, gives_and, value}
-use Rattle.messages.specs.Writer.{afterwards, lent, written}
+use Rattle.messages.specs.Writer.{afterwards, lent, written, written_length, written_number}
 use Rattle.votes.specs.Rows.{number_of}
 use Rattle.station.specs.Calls.{ran_by, selected_by, selected_words, setup_by}
 use Rattle.station.specs.Words.{message_of, replica_of, scalars_of}
@@ -30,5 +30,5 @@ module _ (w : World) where
   pub luscarembo_write_says : Exact w fn.calls.luscarembo_write.ended fn.calls.luscarembo_write.spec
       (λ κs (kind, (words, (buf, _))).
       let m = message_of kind words.now in
-      (value (written buf.now m).number, (afterwards buf.now m, ((written buf.now m).length ∷ [], tt))))
+      (value (written_number (written buf.now m)), (afterwards buf.now m, (written_length (written buf.now m) ∷ [], tt))))
   luscarembo_write_says κs a = refl

@@ -1,18 +1,18 @@
 -- Rows gathered from the lines of a text, line by line.
-use Prim.Native.Nat.{ℕ, ◌-◌, ◌≤◌, ◌<◌}
+use Rattle.std.proofs.Common.{Option, None, Some, Result}
+use Prim.Native.Nat.{ℕ, ◌-◌, ◌≤◌}
 use mathlib.Core.Path.{◌≡◌, refl, sym, ap, ◌∙◌}
 use mathlib.Core.List.{List, [], ◌∷◌}
 use native.Mathlib.Omega.{arith}
 use lib.ListN.{length, take, drop}
+use Rattle.base.specs.declared.refusal.Refusal.{Refusal}
+use Rattle.votes.specs.declared.Choice.{Choice}
 use Rattle.votes.specs.declared.Row.{Row}
 use Rattle.votes.specs.declared.Rows.{Rows}
-use Rattle.votes.specs.declared.Selected.{Selected}
 use Rattle.votes.specs.Rows.{no_rows, added, gathered, selected_from}
 use Rattle.votes.specs.Gather.{gathered_selected}
 use Rattle.messages.specs.declared.Message.{Message}
 use Rattle.messages.specs.declared.Message.TheVariants.{Start, Enter, Propose, Acknowledge, Cast, Ask, Confirm}
-use Rattle.messages.specs.declared.read.Line.{Line}
-use Rattle.messages.specs.declared.read.Line.TheVariants.{Read}
 use Rattle.messages.specs.Reader.{read_line}
 use Rattle.transcript.specs.Texts.{lines_of}
 use Rattle.transcript.specs.LineEnds.{behind_line}
@@ -21,7 +21,7 @@ use Rattle.transcript.specs.TextLaws.{LineAt, NoLine, line_found, line_missing}
 use Rattle.station.specs.Calls.{row_then, rows_of, selected_by}
 
 -- Every kind but V.
-pub other_row : (m : Message) (rows : List Row) → ((r : Row) → m ≡ Cast r → ⊥) → row_then (Read m) rows ≡ []
+pub other_row : (m : Message) (rows : List Row) → ((r : Row) → m ≡ Cast r → ⊥) → row_then (Some m) rows ≡ []
 other_row Start rows k = refl
 other_row (Enter v) rows k = refl
 other_row (Propose p) rows k = refl
@@ -35,57 +35,52 @@ no_row : (s : List ℕ) → NoLine s → rows_of (lines_of s) ≡ []
 no_row [] n = ap rows_of n.lines
 no_row (b ∷ bs) n =
     ap rows_of n.lines
-    ∙ ap (λ (l : Line). row_then l []) (no_end (b ∷ bs) (first_open (b ∷ bs) (b ∷ bs) [] n.lines n.ends))
+    ∙ ap (λ (l : Option Message). row_then l []) (no_end (b ∷ bs) (first_open (b ∷ bs) (b ∷ bs) [] n.lines n.ends))
 
 -- The rows of the lines from place p on.
 abbrev rows_from : List ℕ → ℕ → List Row
 rows_from text p = rows_of (lines_of (drop p text))
 
--- Rows are gathered up to place p, where a line begins that ends at e, or 0.
-pub record Gathering (text : List ℕ) (none t : Rows) (p e : ℕ) : Type 0 where
+-- Rows are gathered up to place p, where a line begins.
+pub record Gathering (text : List ℕ) (none t : Rows) (p : ℕ) : Type 0 where
   pub fits : p ≤ length text
-  pub next : e ≡ behind_line text p
   pub rest : gathered t (rows_from text p) ≡ gathered none (rows_of (lines_of text))
 
-pub begun : (text : List ℕ) (none : Rows) (e : ℕ) → e ≡ behind_line text 0 → Gathering text none none 0 e
-begun text none e n = record { fits = omega arith; next = n; rest = refl }
+pub begun : (text : List ℕ) (none : Rows) → Gathering text none none 0
+begun text none = record { fits = omega arith; rest = refl }
 
-module _ (text : List ℕ) (none t : Rows) (p e : ℕ) (g : Gathering text none t p e) where
+module _ (text : List ℕ) (none t : Rows) (p : ℕ) (g : Gathering text none t p) where
   -- No line is left.
-  pub over : e ≤ 0 → t ≡ gathered none (rows_of (lines_of text))
-  over h =
-      let missing : behind_line text p ≡ 0 = omega (arith, g.next) in
-      ap (gathered t) (sym (no_row (drop p text) (line_missing text p missing))) ∙ g.rest
+  pub over : behind_line text p ≡ None → t ≡ gathered none (rows_of (lines_of text))
+  over missing = ap (gathered t) (sym (no_row (drop p text) (line_missing text p missing))) ∙ g.rest
 
-  module _ (some : 0 < e) where
+  module _ (e : ℕ) (some : Some e ≡ behind_line text p) where
     abbrev pub line : List ℕ
     line = take (e - p) (drop p text)
 
     pub found : LineAt text p e
-    found = line_found text p e g.next some g.fits
+    found = line_found text p e some g.fits
 
     first : gathered t (row_then (read_line line) (rows_from text e)) ≡ gathered none (rows_of (lines_of text))
     first = ap (λ (ls : List (List ℕ)). gathered t (rows_of ls)) (sym found.lines) ∙ g.rest
 
     -- The line is a row: one more.
-    pub more : (s : Rows) (r : Row) (next : ℕ) → s ≡ added t r → read_line line ≡ Read (Cast r) → next ≡ behind_line text e
-        → Gathering text none s e next
-    more s r next is l n = record {
+    pub more : (s : Rows) (r : Row) → s ≡ added t r → read_line line ≡ Some (Cast r) → Gathering text none s e
+    more s r is l = record {
       fits = found.fits;
-      next = n;
       rest =
           ap (λ (x : Rows). gathered x (rows_from text e)) is
-          ∙ ap (λ (x : Line). gathered t (row_then x (rows_from text e))) (sym l)
+          ∙ ap (λ (x : Option Message). gathered t (row_then x (rows_from text e))) (sym l)
           ∙ first;
     }
 
     -- It is none, which ends them.
-    pub ended : (l : Line) → read_line line ≡ l → row_then l (rows_from text e) ≡ [] → t ≡ gathered none (rows_of (lines_of text))
+    pub ended : (l : Option Message) → read_line line ≡ l → row_then l (rows_from text e) ≡ [] → t ≡ gathered none (rows_of (lines_of text))
     ended l is none_told =
-        ap (gathered t) (sym none_told) ∙ ap (λ (x : Line). gathered t (row_then x (rows_from text e))) (sym is) ∙ first
+        ap (gathered t) (sym none_told) ∙ ap (λ (x : Option Message). gathered t (row_then x (rows_from text e))) (sym is) ∙ first
 
 -- The selection over the rows of a text.
-pub selected_is : (n f view : ℕ) (text : List ℕ) (none rows : Rows) (s : Selected) → none ≡ no_rows n f (record { 0 = view })
+pub selected_is : (n f view : ℕ) (text : List ℕ) (none rows : Rows) (s : Result Choice Refusal) → none ≡ no_rows n f (record { 0 = view })
     → rows ≡ gathered none (rows_of (lines_of text)) → s ≡ selected_from rows → s ≡ selected_by n f view text
 unfolding selected_by
 selected_is n f view text none rows s begun all is =

@@ -1,12 +1,10 @@
 -- What the exported functions answer.
-use Rattle.std.specs.Prelude.{ℕ, List, [], ◌∷◌}
+use Rattle.std.specs.Prelude.{ℕ, List, [], ◌∷◌, Option, Some, None, Result, Ok, Err}
+use Rattle.base.specs.declared.refusal.Refusal.{Refusal}
 use Rattle.votes.specs.declared.Choice.{Choice}
 use Rattle.votes.specs.declared.Row.{Row}
-use Rattle.votes.specs.declared.Selected.{Selected}
 use Rattle.votes.specs.Rows.{selected}
 use Rattle.messages.specs.declared.Message.TheVariants.{Start, Enter, Propose, Acknowledge, Cast, Ask, Confirm}
-use Rattle.messages.specs.declared.read.Line.{Line}
-use Rattle.messages.specs.declared.read.Line.TheVariants.{Read, Malformed}
 use Rattle.messages.specs.Reader.{read_line}
 use Rattle.replica.specs.declared.Replica.{Replica}
 use Rattle.replica.specs.declared.Step.{Step}
@@ -14,6 +12,7 @@ use Rattle.replica.specs.Steps.{setup_step}
 use Rattle.transcript.specs.Texts.{lines_of}
 use Rattle.transcript.specs.Feeding.{Ran, ran, resumed}
 use Rattle.station.specs.Words.{entry_of}
+use Rattle.messages.specs.declared.Message.{Message}
 
 -- ---- luscarembo_setup
 abbrev pub setup_by : ℕ → ℕ → ℕ → ℕ → ℕ → Step
@@ -28,21 +27,21 @@ ran_by r text room = ran (resumed r) (lines_of text) room
 -- ---- luscarembo_select
 
 -- "rows given as V lines; a line that is none ends them"
-abbrev pub row_then : Line → List Row → List Row
-row_then (Read (Cast r)) rows = r ∷ rows
-row_then (Read Start) rows = []
-row_then (Read (Enter v)) rows = []
-row_then (Read (Propose p)) rows = []
-row_then (Read (Acknowledge a)) rows = []
-row_then (Read (Ask q)) rows = []
-row_then (Read (Confirm c)) rows = []
-row_then Malformed rows = []
+abbrev pub row_then : Option Message → List Row → List Row
+row_then (Some (Cast r)) rows = r ∷ rows
+row_then (Some Start) rows = []
+row_then (Some (Enter v)) rows = []
+row_then (Some (Propose p)) rows = []
+row_then (Some (Acknowledge a)) rows = []
+row_then (Some (Ask q)) rows = []
+row_then (Some (Confirm c)) rows = []
+row_then None rows = []
 
 abbrev pub rows_of : List (List ℕ) → List Row
 rows_of [] = []
 rows_of (l ∷ ls) = row_then (read_line l) (rows_of ls)
 
-unfoldable pub selected_by : ℕ → ℕ → ℕ → List ℕ → Selected
+unfoldable pub selected_by : ℕ → ℕ → ℕ → List ℕ → Result Choice Refusal
 selected_by n f view text = selected n f (record { 0 = view }) (rows_of (lines_of text))
 
 -- "0 to wait, 1 for free, 2 for forced to the entry"
@@ -52,6 +51,6 @@ choice_words Choice.Free = 1 ∷ 0 ∷ 0 ∷ []
 choice_words (Choice.Forced e) = 2 ∷ e.hi ∷ e.lo ∷ []
 
 -- Nothing is chosen where the selection answers with a number.
-abbrev pub selected_words : Selected → List ℕ
-selected_words (Selected.Refused number) = 0 ∷ 0 ∷ 0 ∷ []
-selected_words (Selected.Chosen c) = choice_words c
+abbrev pub selected_words : Result Choice Refusal → List ℕ
+selected_words (Err why) = 0 ∷ 0 ∷ 0 ∷ []
+selected_words (Ok c) = choice_words c

@@ -1,23 +1,25 @@
-// The functions of the library. C calls them by way of the crate station_c.
+// The functions of the library. C calls them by way of the crate station_c, which exports each with the same signature and clauses, as a
+// crate is a library or exports for C: so arrays, kinds and numbers of refusal come and go one by one, as luscarembo.h has them.
 ghost use Rattle.std.specs.Prelude.{◌≡◌, [], ◌∷◌, length};
 ghost use Rattle.votes.specs.Rows.{number_of, gathered};
-ghost use Rattle.messages.specs.Writer.{lent, written, afterwards};
+ghost use Rattle.messages.specs.Writer.{lent, written, written_number, written_length, afterwards};
 ghost use Rattle.transcript.specs.Texts.{lines_of};
 ghost use Rattle.station.specs.Words.{scalars_of, replica_of, message_of};
 ghost use Rattle.station.specs.Calls.{setup_by, ran_by, choice_words, rows_of, selected_words, selected_by};
 
-use crate::words::{Scalars, Words, keep, message_of, replica_of};
+use crate::words::{Arrays, Scalars, Words, message_of};
+use base::refusal::number_of;
 use entry::Entry;
 use entry::table::Entries;
 use messages::Message;
-use messages::read::{Line, read_line};
+use messages::read::read_line;
 use messages::write::write_line;
 use replica::Replica;
 use seats::{Seat, View};
 use transcript::begin::resume;
 use transcript::feed::feed;
 use transcript::lines::end_of_line;
-use votes::{Choice, Rows, Selected};
+use votes::{Choice, Rows};
 
 // The replica that setup begins, or the blank one; the answer is setup's number.
 pub fn luscarembo_setup(
@@ -35,16 +37,16 @@ pub fn luscarembo_setup(
 ) -> u8
     ensures { let t = setup_by n f seat hi lo in (result ≡ t.number) × (scalars.new ≡ scalars_of t.next) × (ack_entries.new ≡ t.next.acks.entries) × (ack_views.new ≡ t.next.acks.views) × (vote_entries.new ≡ t.next.votes.votes.entries) × (vote_masks.new ≡ t.next.votes.votes.masks) × (vote_views.new ≡ t.next.votes.votes.views) }
 {
-    let t = Replica::setup_step(n, f, Seat(seat), Entry { hi: hi, lo: lo });
-    keep(
-        t.next,
+    let t = Replica::setup_step(n, f, Seat(seat), Entry { hi, lo });
+    let kept = Arrays {
         scalars,
         ack_entries,
         ack_views,
         vote_entries,
         vote_masks,
         vote_views,
-    );
+    };
+    kept.keep(t.next);
     t.number
 }
 
@@ -63,30 +65,22 @@ pub fn luscarembo_events(
 ) -> usize
     ensures { let t = ran_by (replica_of scalars.old ack_entries.old ack_views.old vote_entries.old vote_masks.old vote_views.old) text.now (length out.old) in (result ≡ length t.text) × (scalars.new ≡ scalars_of t.state.replica) × (ack_entries.new ≡ t.state.replica.acks.entries) × (ack_views.new ≡ t.state.replica.acks.views) × (vote_entries.new ≡ t.state.replica.votes.votes.entries) × (vote_masks.new ≡ t.state.replica.votes.votes.masks) × (vote_views.new ≡ t.state.replica.votes.votes.views) × (out.new ≡ lent out.old t.text) }
 {
-    let r = replica_of(
+    let kept = Arrays {
         scalars,
         ack_entries,
         ack_views,
         vote_entries,
         vote_masks,
         vote_views,
-    );
+    };
+    let r = kept.replica();
     let fed = feed(resume(r), text, out);
-    let state = fed.state;
-    let next = state.replica();
-    keep(
-        next,
-        scalars,
-        ack_entries,
-        ack_views,
-        vote_entries,
-        vote_masks,
-        vote_views,
-    );
+    let next = fed.state.replica();
+    kept.keep(next);
     fed.put
 }
 
-// 0 wait, 1 free, 2 forced and the entry.
+// 0 wait, 1 free, 2 forced and the entry: as C reads them (luscarembo.h).
 fn choice_words(c: Choice) -> [u64; 3]
     ensures { result ≡ choice_words c }
 {
@@ -97,30 +91,21 @@ fn choice_words(c: Choice) -> [u64; 3]
     }
 }
 
-// Rows given as V lines. A line that is none ends them.
+// Rows given as V lines. A line that is none ends them. (A match within a match, as in sort.rt of transcript.)
 fn gather(rows: Rows, text: &[u8]) -> Rows
     ensures { result ≡ gathered rows (rows_of (lines_of text.now)) }
 {
     let mut t = rows;
     let mut at: usize = 0;
-    let mut end = end_of_line(text, 0);
-    while 0 < end {
-        let l = read_line(&text[at..end]);
-        match l {
-            Line::Malformed => {
-                return t;
-            }
-            Line::Read(m) => match m {
-                Message::Cast(r) => {
-                    t = t.add(r);
-                }
-                _ => {
-                    return t;
-                }
+    while let Some(end) = end_of_line(text, at) {
+        match read_line(&text[at..end]) {
+            None => return t,
+            Some(m) => match m {
+                Message::Cast(r) => t = t.add(r),
+                _ => return t,
             },
         }
         at = end;
-        end = end_of_line(text, at);
     }
     t
 }
@@ -130,13 +115,12 @@ pub fn luscarembo_select(n: u8, f: u8, view: u32, text: &[u8], choice: &mut [u64
     ensures { (result ≡ number_of (selected_by n f view text.now)) × (choice.new ≡ selected_words (selected_by n f view text.now)) }
 {
     let rows = gather(Rows::none(n, f, View(view)), text);
-    let s = rows.select();
-    match s {
-        Selected::Refused(number) => {
+    match rows.select() {
+        Err(why) => {
             *choice = [0, 0, 0];
-            number
+            number_of(Err(why))
         }
-        Selected::Chosen(c) => {
+        Ok(c) => {
             *choice = choice_words(c);
             0
         }
@@ -145,9 +129,16 @@ pub fn luscarembo_select(n: u8, f: u8, view: u32, text: &[u8], choice: &mut [u64
 
 // The line of a message, by the letter of its kind; the answer is the writer's number, and `length` how long the line is.
 pub fn luscarembo_write(kind: u8, words: &Words, buf: &mut [u8], length: &mut [u64; 1]) -> u8
-    ensures { let m = message_of kind words.now in (result ≡ (written buf.old m).number) × (buf.new ≡ afterwards buf.old m) × (length.new ≡ (written buf.old m).length ∷ []) }
+    ensures { let m = message_of kind words.now in (result ≡ written_number (written buf.old m)) × (buf.new ≡ afterwards buf.old m) × (length.new ≡ written_length (written buf.old m) ∷ []) }
 {
-    let w = write_line(buf, message_of(kind, words));
-    *length = [w.length as u64];
-    w.number
+    match write_line(buf, message_of(kind, words)) {
+        Err(why) => {
+            *length = [0];
+            number_of(Err(why))
+        }
+        Ok(n) => {
+            *length = [n as u64];
+            0
+        }
+    }
 }

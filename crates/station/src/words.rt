@@ -22,129 +22,116 @@ const BYTES: u64 = 256;
 
 const VIEWS: u64 = 4294967296;
 
-pub(crate) fn replica_of(
-    s: &Scalars,
-    ack_entries: &Entries,
-    ack_views: &[u32; 64],
-    vote_entries: &Entries,
-    vote_masks: &[u64; 64],
-    vote_views: &[u32; 64],
-) -> Replica
-    ensures { result ≡ replica_of s.now ack_entries.now ack_views.now vote_entries.now vote_masks.now vote_views.now }
-{
-    Replica {
-        n: (s[0] % BYTES) as u8,
-        f: (s[1] % BYTES) as u8,
-        seat: Seat((s[2] % BYTES) as u8),
-        stage: Stage((s[3] % BYTES) as u8),
-        decided: s[4] % 2 == 1,
-        view: View((s[5] % VIEWS) as u32),
-        vote: Vote {
-            entry: Entry {
-                hi: s[9],
-                lo: s[10],
+// A replica as the caller keeps it. No From: a ghost member of it would say the answer, and no contract would stand at these methods.
+#[derive(Drop)]
+pub(crate) struct Arrays<'a> {
+    pub scalars: &'a mut Scalars,
+    pub ack_entries: &'a mut Entries,
+    pub ack_views: &'a mut [u32; 64],
+    pub vote_entries: &'a mut Entries,
+    pub vote_masks: &'a mut [u64; 64],
+    pub vote_views: &'a mut [u32; 64],
+}
+
+impl Arrays<'_> {
+    pub(crate) fn replica(&self) -> Replica
+        ensures { result ≡ replica_of self.now.scalars.now self.now.ack_entries.now self.now.ack_views.now self.now.vote_entries.now self.now.vote_masks.now self.now.vote_views.now }
+    {
+        let s = &*self.scalars;
+        Replica {
+            n: (s[0] % BYTES) as u8,
+            f: (s[1] % BYTES) as u8,
+            seat: Seat((s[2] % BYTES) as u8),
+            stage: Stage((s[3] % BYTES) as u8),
+            decided: s[4] % 2 == 1,
+            view: View((s[5] % VIEWS) as u32),
+            vote: Vote {
+                entry: Entry {
+                    hi: s[9],
+                    lo: s[10],
+                },
+                mask: s[11],
+                view: View((s[8] % VIEWS) as u32),
+                cast: s[6] % 2 == 1,
+                verified: s[7] % 2 == 1,
             },
-            mask: s[11],
-            view: View((s[8] % VIEWS) as u32),
-            cast: s[6] % 2 == 1,
-            verified: s[7] % 2 == 1,
-        },
-        decision: Entry {
-            hi: s[12],
-            lo: s[13],
-        },
-        chosen: Entry {
-            hi: s[14],
-            lo: s[15],
-        },
-        confirmed: s[16],
-        own: Entry {
-            hi: s[17],
-            lo: s[18],
-        },
-        acks: Acks {
-            entries: *ack_entries,
-            views: *ack_views,
-        },
-        votes: VoteRows {
-            filled: s[19],
-            votes: Votes {
-                cast: s[20],
-                verified: s[21],
-                entries: *vote_entries,
-                masks: *vote_masks,
-                views: *vote_views,
+            decision: Entry {
+                hi: s[12],
+                lo: s[13],
             },
-        },
+            chosen: Entry {
+                hi: s[14],
+                lo: s[15],
+            },
+            confirmed: s[16],
+            own: Entry {
+                hi: s[17],
+                lo: s[18],
+            },
+            acks: Acks {
+                entries: *self.ack_entries,
+                views: *self.ack_views,
+            },
+            votes: VoteRows {
+                filled: s[19],
+                votes: Votes {
+                    cast: s[20],
+                    verified: s[21],
+                    entries: *self.vote_entries,
+                    masks: *self.vote_masks,
+                    views: *self.vote_views,
+                },
+            },
+        }
+    }
+
+    // The next replica is left there.
+    pub(crate) fn keep(self, r: Replica)
+        ensures { (self.exit.0.now ≡ scalars_of r) × (self.exit.1.0.now ≡ r.acks.entries) × (self.exit.1.1.0.now ≡ r.acks.views) × (self.exit.1.1.1.0.now ≡ r.votes.votes.entries) × (self.exit.1.1.1.1.0.now ≡ r.votes.votes.masks) × (self.exit.1.1.1.1.1.0.now ≡ r.votes.votes.views) }
+    {
+        *self.scalars = scalars_of(r);
+        // An array goes by way of a variable: the check of borrows covers no array that is copied from field to field.
+        let acked = r.acks.entries;
+        *self.ack_entries = acked;
+        let views = r.acks.views;
+        *self.ack_views = views;
+        let entries = r.votes.votes.entries;
+        *self.vote_entries = entries;
+        let masks = r.votes.votes.masks;
+        *self.vote_masks = masks;
+        let voted = r.votes.votes.views;
+        *self.vote_views = voted;
     }
 }
 
-pub(crate) fn scalars_of(r: Replica) -> Scalars
+// No From, here and below: neither an array of words nor what it stands for is a type of this crate.
+fn scalars_of(r: Replica) -> Scalars
     ensures { result ≡ scalars_of r }
 {
-    let seat = r.seat;
-    let stage = r.stage;
-    let v = r.view;
-    let x = r.vote;
-    let e = x.entry;
-    let u = x.view;
-    let d = r.decision;
-    let c = r.chosen;
-    let own = r.own;
-    let rows = r.votes;
-    let t = rows.votes;
     [
         r.n as u64,
         r.f as u64,
-        seat.0 as u64,
-        stage.0 as u64,
+        r.seat.0 as u64,
+        r.stage.0 as u64,
         r.decided as u64,
-        v.0 as u64,
-        x.cast as u64,
-        x.verified as u64,
-        u.0 as u64,
-        e.hi,
-        e.lo,
-        x.mask,
-        d.hi,
-        d.lo,
-        c.hi,
-        c.lo,
+        r.view.0 as u64,
+        r.vote.cast as u64,
+        r.vote.verified as u64,
+        r.vote.view.0 as u64,
+        r.vote.entry.hi,
+        r.vote.entry.lo,
+        r.vote.mask,
+        r.decision.hi,
+        r.decision.lo,
+        r.chosen.hi,
+        r.chosen.lo,
         r.confirmed,
-        own.hi,
-        own.lo,
-        rows.filled,
-        t.cast,
-        t.verified,
+        r.own.hi,
+        r.own.lo,
+        r.votes.filled,
+        r.votes.votes.cast,
+        r.votes.votes.verified,
     ]
-}
-
-// A replica left in the caller's arrays.
-pub(crate) fn keep(
-    r: Replica,
-    scalars: &mut Scalars,
-    ack_entries: &mut Entries,
-    ack_views: &mut [u32; 64],
-    vote_entries: &mut Entries,
-    vote_masks: &mut [u64; 64],
-    vote_views: &mut [u32; 64],
-)
-    ensures { (scalars.new ≡ scalars_of r) × (ack_entries.new ≡ r.acks.entries) × (ack_views.new ≡ r.acks.views) × (vote_entries.new ≡ r.votes.votes.entries) × (vote_masks.new ≡ r.votes.votes.masks) × (vote_views.new ≡ r.votes.votes.views) }
-{
-    *scalars = scalars_of(r);
-    let acks = r.acks;
-    let acked = acks.entries;
-    *ack_entries = acked;
-    let views = acks.views;
-    *ack_views = views;
-    let rows = r.votes;
-    let votes = rows.votes;
-    let entries = votes.entries;
-    *vote_entries = entries;
-    let masks = votes.masks;
-    *vote_masks = masks;
-    let voted = votes.views;
-    *vote_views = voted;
 }
 
 fn head_of(m: &Words) -> Head
@@ -190,45 +177,32 @@ fn count_of(m: &Words) -> u8
     (m[6] % BYTES) as u8
 }
 
-// By the letter of its line; any other letter is an S.
+// By the letter of its line, which C hands in as a byte; any other letter is an S.
 pub(crate) fn message_of(kind: u8, m: &Words) -> Message
     ensures { result ≡ message_of kind m.now }
 {
-    let h = head_of(m);
-    let e = entry_of(m);
-    let view = h.view;
-    if kind == b'E' {
-        return Message::Enter(view);
-    }
-    if kind == b'P' {
-        return Message::Propose(Proposal {
-            head: h,
-            entry: e,
+    let head = head_of(m);
+    let entry = entry_of(m);
+    match kind {
+        b'E' => Message::Enter(head.view),
+        b'P' => Message::Propose(Proposal {
+            head,
+            entry,
             mask: mask_of(m),
-        });
-    }
-    if kind == b'A' {
-        return Message::Acknowledge(Assent { head: h, entry: e });
-    }
-    if kind == b'V' {
-        let x = vote_of(m);
-        let seat = h.seat;
-        return Message::Cast(Row {
-            seat: seat,
-            verified: h.verified,
-            view: view,
-            vote: x,
-        });
-    }
-    if kind == b'Q' {
-        return Message::Ask(Request {
-            head: h,
-            entry: e,
+        }),
+        b'A' => Message::Acknowledge(Assent { head, entry }),
+        b'V' => Message::Cast(Row {
+            seat: head.seat,
+            verified: head.verified,
+            view: head.view,
+            vote: vote_of(m),
+        }),
+        b'Q' => Message::Ask(Request {
+            head,
+            entry,
             count: count_of(m),
-        });
+        }),
+        b'C' => Message::Confirm(Assent { head, entry }),
+        _ => Message::Start,
     }
-    if kind == b'C' {
-        return Message::Confirm(Assent { head: h, entry: e });
-    }
-    Message::Start
 }

@@ -4,7 +4,7 @@
 
 ghost use Rattle.std.specs.Prelude.{◌≡◌, [], ◌∷◌, length};
 ghost use Rattle.votes.specs.Rows.{number_of};
-ghost use Rattle.messages.specs.Writer.{lent, written, afterwards};
+ghost use Rattle.messages.specs.Writer.{lent, written, written_number, written_length, afterwards};
 ghost use Rattle.station.specs.Words.{scalars_of, replica_of, message_of};
 ghost use Rattle.station.specs.Calls.{setup_by, ran_by, selected_words, selected_by};
 
@@ -93,7 +93,7 @@ pub extern "C" fn luscarembo_write(
     buf: &mut [u8],
     length: &mut [u64; 1],
 ) -> u8
-    ensures { let m = message_of kind words.now in (result ≡ (written buf.old m).number) × (buf.new ≡ afterwards buf.old m) × (length.new ≡ (written buf.old m).length ∷ []) }
+    ensures { let m = message_of kind words.now in (result ≡ written_number (written buf.old m)) × (buf.new ≡ afterwards buf.old m) × (length.new ≡ written_length (written buf.old m) ∷ []) }
 {
     calls::luscarembo_write(kind, words, buf, length)
 }

@@ -1,11 +1,12 @@
 -- Steps of the loops that put numbers.
+use Rattle.std.specs.Prelude.{max}
 use Prim.Native.Nat.{ℕ, zero, suc, ◌+◌, ◌*◌, ◌-◌, ◌/◌, ◌%◌, ◌^◌, ◌≤◌, ◌<◌}
 use mathlib.Core.Path.{◌≡◌, refl, sym, ap, ap₂, ◌∙◌, subst}
 use mathlib.Core.Bool.{Bool, true, false, not, cond}
 use mathlib.Core.List.{List, [], ◌∷◌, ◌++◌}
 use native.Mathlib.Omega.{arith}
 use native.Mathlib.Numerals.{add-one}
-use native.Mathlib.Nat.{add-zero, pow-suc, pow-succ', div-div-eq-div-mul, le-div_iff_mul-le, div-lt_iff_lt-mul}
+use native.Mathlib.Nat.{add-zero, pow-suc, pow-succ', div-div-eq-div-mul, pow-le-pow_right}
 use lib.Pow.{pow-add}
 use lib.Dec.{ltb, leb, lit<}
 use lib.ListN.{length, set, length-append, length-set}
@@ -13,8 +14,8 @@ use lib.Seq.{sets, set_comm}
 use mir.Val.{bool_byte}
 use borrow.Author.Tests.{ltb-true, ltb-false, leb-true, leb-false, not-true, not-false, lt-ltb, le-ltb, le-leb, lt-leb}
 use Rattle.text.specs.Digits.{digits, hex_char, dec_char, width}
-use Rattle.text.specs.DigitLaws.{none_off, more_off, digits_length}
-use Rattle.text.specs.DecimalLaws.{Lead, few, width_is, ten_pos}
+use Rattle.text.specs.DigitLaws.{none_off, digits_length}
+use Rattle.text.specs.DecimalLaws.{width_is}
 use Rattle.text.specs.Put.{room, placed}
 use Rattle.text.specs.PutLaws.{placed_room, placed_none}
 
@@ -86,13 +87,14 @@ hex_pow (suc k) =
     let e : 4 * suc k ≡ 4 * k + 4 = omega arith in
     pow-suc 16 k ∙ ap (λ (x : ℕ). x * 16) (hex_pow k) ∙ sym (ap (λ (x : ℕ). 2 ^ x) e ∙ pow-add 2 (4 * k) 4)
 
--- The first of k digits.
-pub hex_first : (k w d : ℕ) → 0 < k → d ≡ hex_char (w / 2 ^ (4 * (k - 1)) % 16)
-    → digits 16 hex_char k w ≡ d ∷ digits 16 hex_char (k - 1) w
+-- The first of the digits from the k-th on.
+pub hex_first : (k w d : ℕ) → k < 16 → d ≡ hex_char (w / 2 ^ (4 * (15 - k)) % 16)
+    → digits 16 hex_char (16 - k) w ≡ d ∷ digits 16 hex_char (16 - (k + 1)) w
 hex_first k w d h e =
-    let n : k ≡ suc (k - 1) = omega arith in
+    let n : 16 - k ≡ suc (15 - k) = omega arith in
+    let m : 15 - k ≡ 16 - (k + 1) = omega arith in
     ap (λ (j : ℕ). digits 16 hex_char j w) n
-    ∙ ap (λ (y : ℕ). y ∷ digits 16 hex_char (k - 1) w) (ap (λ (y : ℕ). hex_char (w / y % 16)) (hex_pow (k - 1)) ∙ sym e)
+    ∙ ap₂ ◌∷◌ (ap (λ (y : ℕ). hex_char (w / y % 16)) (hex_pow (15 - k)) ∙ sym e) (ap (λ (j : ℕ). digits 16 hex_char j w) m)
 
 -- ---- decimals
 
@@ -118,35 +120,13 @@ decimal_last before p text s i v h l =
 
 -- ---- counting digits
 
--- k digits are counted, and the number without all of them but the first is `rest`.
-pub record Counted (v k rest : ℕ) : Type 0 where
-  pub off : ℕ
-  pub is : k ≡ suc off
-  pub left : rest ≡ v / 10 ^ off
-  pub small : off ≤ 19
-  pub lead : Lead off v
-
-pub counted_one : (v : ℕ) → Counted v 1 v
-counted_one v = record { off = 0; is = refl; left = sym (none_off 10 v); small = omega arith; lead = omega arith }
-
-pub counted_more : (v k rest : ℕ) → v < 2 ^ 64 → Counted v k rest → 10 ≤ rest → Counted v (k + 1) (rest / 10)
-counted_more v k rest top c h =
-    let q : 10 ≤ v / 10 ^ c.off = omega (arith, c.left) in
-    let lead : 10 ^ suc c.off ≤ v = rw (pow-succ' 10 c.off) ((le-div_iff_mul-le (ten_pos c.off)).0 q) in
-    let ends : 2 ^ 64 < 10 ^ 20 = lit< tt in
-    record {
-      off = suc c.off;
-      is = omega (arith, c.is);
-      left = ap (λ (y : ℕ). y / 10) c.left ∙ sym (more_off 10 c.off v);
-      small = few (suc c.off) v lead (omega arith);
-      lead = lead;
-    }
-
-pub counted_all : (v k rest : ℕ) → Counted v k rest → rest < 10 → k ≡ width v
-counted_all v k rest c h =
-    let q : v / 10 ^ c.off < 10 = omega (arith, c.left) in
-    let above : v < 10 ^ suc c.off = rw (pow-succ' 10 c.off) ((div-lt_iff_lt-mul (ten_pos c.off)).0 q) in
-    c.is ∙ sym (width_is c.off v c.lead above c.small)
+-- The logarithm of a number counts all of its digits but the first; 0 has one as 1 has.
+pub log_width : (k v : ℕ) → 10 ^ k ≤ max v 1 → max v 1 < 10 * 10 ^ k → k < 20 → k + 1 ≡ width v
+log_width zero v lo hi small = sym (width_is 0 v (omega arith) (omega arith) (omega arith)) ∙ omega arith
+log_width (suc j) v lo hi small =
+    let ten : 10 ^ 1 ≤ 10 ^ suc j = pow-le-pow_right (lit< tt) {i = 1} {j = suc j} (omega arith) in
+    let above : v < 10 ^ suc (suc j) = omega (arith, pow-succ' 10 (suc j)) in
+    sym (width_is (suc j) v (omega arith) above (omega arith) ∙ omega arith)
 
 -- A letter's byte is 39 more than its number would have among the decimal digits.
 pub char_is : (d : ℕ) → 48 + d + 39 * bool_byte (ltb 9 d) ≡ hex_char d

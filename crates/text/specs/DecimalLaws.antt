@@ -1,29 +1,34 @@
 -- A decimal is written in as many digits as it needs, and only they read as it.
-use Rattle.std.specs.Prelude.{ℕ, zero, suc, ◌+◌, ◌-◌, ◌/◌, ◌%◌, ◌^◌, ◌<◌, ◌≤◌, ◌≡◌, refl, Bool, true, false, ◌&&◌, cond, List, [], ◌∷◌, ltb, leb, length}
+use Rattle.std.specs.Prelude.{ℕ, zero, suc, ◌+◌, ◌-◌, ◌/◌, ◌%◌, ◌^◌, ◌<◌, ◌≤◌, ◌≡◌, refl, Bool, true, false, cond, List, [], ◌∷◌, ltb, leb, length, Option, Some, None, IfSome}
 use Rattle.std.proofs.Common.{sym, ap, ◌∙◌, arith, mod-eq_of_lt, div-lt_iff_lt-mul, lt_of_lt_of_le, le_trans, lit<, ltb-false, leb-true, leb-false, ne_eqb, le-ltb, le-leb}
 use Rattle.std.proofs.Math.Nat.{pow-succ', pow-le-pow_right, div-eq_of_lt}
 use mir.Val.{bool_byte}
 use Rattle.std.proofs.lemmas.Bool.{lt-leb}
-use Rattle.base.specs.Tests.{true≢false, and_true}
-use Rattle.text.specs.Digits.{digits, some, none, value_from, dec_char, dec_digit, reached, width, decimal, plain, decimal_of}
-use Rattle.text.specs.DigitLaws.{digits_read, read_digits, digits_length, good_some, below, Begins, digits_begin}
-use Rattle.text.specs.declared.Number.{Number}
+use Rattle.std.proofs.lemmas.Option.{same_Some, none-some}
+use Rattle.std.specs.Bool.{then_some}
+use Rattle.base.specs.Tests.{true≢false}
+use Rattle.text.specs.Digits.{digits, value_from, dec_char, dec_digit, reached, width, decimal, plain, at_most, decimal_of}
+use Rattle.text.specs.DigitLaws.{digits_read, read_digits, digits_length, below, Begins, digits_begin}
 
 -- A digit's byte reads as the digit.
-dec_back : (d : ℕ) → d < 10 → dec_digit (dec_char d) ≡ d
+dec_back : (d : ℕ) → d < 10 → dec_digit (dec_char d) ≡ Some d
 unfolding dec_digit
-dec_back d h = simp (le-ltb (48 + d) 48 (omega arith), le-ltb 57 (48 + d) (omega arith)) (omega arith)
+dec_back d h = simp (le-ltb (48 + d) 48 (omega arith), le-ltb 57 (48 + d) (omega arith)) (ap Some (omega arith))
 
 -- A byte that reads as a digit is that digit's.
-dec_only : (x : ℕ) → (dec_digit x ≡ 10 → ⊥) → (dec_digit x < 10) × (dec_char (dec_digit x) ≡ x)
+pub dec_only : (x d : ℕ) → dec_digit x ≡ Some d → (d < 10) × (dec_char d ≡ x)
 unfolding dec_digit
-dec_only x h = go (ltb x 48) refl (ltb 57 x) refl h
+dec_only x d h = go (ltb x 48) refl (ltb 57 x) refl h
   where
-    go : (p : Bool) → ltb x 48 ≡ p → (q : Bool) → ltb 57 x ≡ q → (cond p 10 (cond q 10 (x - 48)) ≡ 10 → ⊥)
-        → (cond p 10 (cond q 10 (x - 48)) < 10) × (48 + cond p 10 (cond q 10 (x - 48)) ≡ x)
-    go true e q f h = absurd (h refl)
-    go false e true f h = absurd (h refl)
-    go false e false f h = let a = ltb-false x 48 e in let b = ltb-false 57 x f in (omega arith, omega arith)
+    go : (p : Bool) → ltb x 48 ≡ p → (q : Bool) → ltb 57 x ≡ q → cond p None (cond q None (Some (x - 48))) ≡ Some d
+        → (d < 10) × (48 + d ≡ x)
+    go true e q f h = absurd (none-some d h)
+    go false e true f h = absurd (none-some d h)
+    go false e false f h =
+        let a = ltb-false x 48 e in
+        let b = ltb-false 57 x f in
+        let is = same_Some (x - 48) d h in
+        (omega arith, omega arith)
 
 -- ---- how many digits
 
@@ -145,19 +150,19 @@ decimal_some v = digits_begin 10 dec_char (λ d. omega arith) (width v) v (omega
 -- ---- both ways
 
 -- What is written of a number reads as the number.
-pub decimal_reads : (max v : ℕ) → v ≤ max → max < 2 ^ 64 → decimal_of max (decimal v) ≡ some v
+pub decimal_reads : (max v : ℕ) → v ≤ max → max < 2 ^ 64 → decimal_of max (decimal v) ≡ Some v
 unfolding decimal_of decimal
 decimal_reads max v h m =
     let top : 2 ^ 64 < 10 ^ 20 = lit< tt in
     let w = widest 19 v (omega arith) (omega arith) in
     let is = width_is w.k v w.lead w.above w.small in
-    let val : value_from 10 dec_digit 0 (digits 10 dec_char (suc w.k) v) ≡ some v =
+    let val : value_from 10 dec_digit 0 (digits 10 dec_char (suc w.k) v) ≡ Some v =
     ap (λ (x : ℕ). value_from 10 dec_digit x (digits 10 dec_char (suc w.k) v)) (sym (div-eq_of_lt w.above))
     ∙ digits_read 10 (lit< tt) dec_char dec_digit dec_back dec_only (suc w.k) v in
     rw (is, digits_plain w.k v w.lead w.above, val, le-leb v max h)
 
 -- Digits without a leading zero that read as v are those written of v.
-plain_exact : (v : ℕ) → v < 2 ^ 64 → (f : List ℕ) → plain f ≡ true → value_from 10 dec_digit 0 f ≡ some v → f ≡ decimal v
+plain_exact : (v : ℕ) → v < 2 ^ 64 → (f : List ℕ) → plain f ≡ true → value_from 10 dec_digit 0 f ≡ Some v → f ≡ decimal v
 unfolding decimal plain
 plain_exact v top [] p e = true≢false (sym p)
 plain_exact v top (x ∷ xs) p e =
@@ -168,34 +173,34 @@ plain_exact v top (x ∷ xs) p e =
     let w = width_is (length xs) v l above (few (length xs) v l (omega arith)) in
     r.1 ∙ ap (λ (k : ℕ). digits 10 dec_char k v) (sym w)
 
+-- A number that is at most max is the one that was read.
+most : (max v : ℕ) (n : Option ℕ) → at_most max n ≡ Some v → (n ≡ Some v) × (v ≤ max)
+most max v None h = absurd (none-some v h)
+most max v (Some x) h = go (leb x max) refl h
+  where
+    go : (t : Bool) → leb x max ≡ t → then_some t x ≡ Some v → (Some x ≡ Some v) × (v ≤ max)
+    go true e h = let l = leb-true x max e in (h, omega (arith, same_Some x v h))
+    go false e h = absurd (none-some v h)
+
 -- What reads as a number is what is written of it.
-pub decimal_exact : (max : ℕ) → max < 2 ^ 64 → (f : List ℕ) → (decimal_of max f).good ≡ true
-    → (f ≡ decimal (decimal_of max f).value) × ((decimal_of max f).value ≤ max)
+pub decimal_exact : (max : ℕ) → max < 2 ^ 64 → (f : List ℕ) (v : ℕ) → decimal_of max f ≡ Some v → (f ≡ decimal v) × (v ≤ max)
 unfolding decimal_of
-decimal_exact max m f h = go (plain f) refl (n.good && leb n.value max) refl h
+decimal_exact max m f v h = go (plain f) refl h
   where
-    n : Number
-    n = value_from 10 dec_digit 0 f
+    go : (p : Bool) → plain f ≡ p → cond p (at_most max (value_from 10 dec_digit 0 f)) None ≡ Some v → (f ≡ decimal v) × (v ≤ max)
+    go false e h = absurd (none-some v h)
+    go true e h = let n = most max v (value_from 10 dec_digit 0 f) h in (plain_exact v (omega (arith, n.1)) f e n.0, n.1)
 
-    go : (p : Bool) → plain f ≡ p → (q : Bool) → (n.good && leb n.value max) ≡ q → (cond p (cond q n none) none).good ≡ true
-        → (f ≡ decimal (cond p (cond q n none) none).value) × ((cond p (cond q n none) none).value ≤ max)
-    go false e q i h = true≢false (sym h)
-    go true e false i h = true≢false (sym h)
-    go true e true i h =
-        let both = and_true n.good (leb n.value max) i in
-        let le = leb-true n.value max both.1 in
-        (plain_exact n.value (omega arith) f e (good_some n both.0), le)
-
--- What a field holds is at most what it may be; 0 where it holds nothing.
-pub decimal_below : (max : ℕ) (f : List ℕ) → (decimal_of max f).value ≤ max
+-- What a field holds is at most what it may be.
+pub decimal_below : (max : ℕ) (f : List ℕ) → IfSome (decimal_of max f) (λ v. v ≤ max)
 unfolding decimal_of
-decimal_below max f = go (plain f) n.good (leb n.value max) refl
+decimal_below max f = go (plain f) (value_from 10 dec_digit 0 f)
   where
-    n : Number
-    n = value_from 10 dec_digit 0 f
+    in_max : (v : ℕ) (t : Bool) → leb v max ≡ t → IfSome (then_some t v) (λ v. v ≤ max)
+    in_max v true e = leb-true v max e
+    in_max v false e = tt
 
-    go : (p g l : Bool) → leb n.value max ≡ l → (cond p (cond (g && l) n none) none).value ≤ max
-    go true true true e = leb-true n.value max e
-    go true true false e = omega arith
-    go true false l e = omega arith
-    go false g l e = omega arith
+    go : (p : Bool) (n : Option ℕ) → IfSome (cond p (at_most max n) None) (λ v. v ≤ max)
+    go false n = tt
+    go true None = tt
+    go true (Some v) = in_max v (leb v max) refl

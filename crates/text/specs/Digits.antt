@@ -1,7 +1,7 @@
 -- 01, "Lines": decimals "have no sign and no leading zero"; entries and masks are "lowercase hex digits".
-use Rattle.std.specs.Prelude.{ℕ, zero, suc, ◌+◌, ◌*◌, ◌-◌, ◌/◌, ◌%◌, ◌^◌, Bool, true, false, not, ◌&&◌, cond, List, [], ◌∷◌, eqb, ltb, leb, length}
+use Rattle.std.specs.Prelude.{ℕ, zero, suc, ◌+◌, ◌*◌, ◌-◌, ◌/◌, ◌%◌, ◌^◌, Bool, true, false, not, cond, List, [], ◌∷◌, eqb, ltb, leb, length, Option, Some, None, option_and_then}
 use mir.Val.{bool_byte}
-use Rattle.text.specs.declared.Number.{Number}
+use Rattle.std.specs.Bool.{then_some}
 
 -- ---- written
 
@@ -40,26 +40,24 @@ hex w = digits 16 hex_char word_digits w
 
 -- ---- read
 
-abbrev pub some : ℕ → Number
-some v = record { good = true; value = v }
+-- What the next step makes of what was read, where something was; `do` writes a chain of such steps.
+infixl 10 ◌>>=◌
+abbrev pub ◌>>=◌ : {A B : Type 0} → Option A → (A → Option B) → Option B
+o >>= f = option_and_then f o
 
-abbrev pub none : Number
-none = record { good = false; value = 0 }
+-- A digit's number, if the byte is one.
+unfoldable pub dec_digit : ℕ → Option ℕ
+dec_digit x = cond (ltb x 48) None (cond (ltb 57 x) None (Some (x - 48)))
 
-abbrev pub kept : Bool → ℕ → Number
-kept good v = cond good (some v) none
+unfoldable pub hex_digit : ℕ → Option ℕ
+hex_digit x = cond (ltb x 48) None (cond (leb x 57) (Some (x - 48)) (cond (ltb x 97) None (cond (leb x 102) (Some (x - 97 + 10)) None)))
 
--- A digit's number; the base itself of any other byte.
-unfoldable pub dec_digit : ℕ → ℕ
-dec_digit x = cond (ltb x 48) 10 (cond (ltb 57 x) 10 (x - 48))
-
-unfoldable pub hex_digit : ℕ → ℕ
-hex_digit x = cond (ltb x 48) 16 (cond (leb x 57) (x - 48) (cond (ltb x 97) 16 (cond (leb x 102) (x - 97 + 10) 16)))
-
--- The number whose digits are those of a, then the bytes given; `digit` reads a byte.
-abbrev pub value_from : ℕ → (ℕ → ℕ) → ℕ → List ℕ → Number
-value_from b digit a [] = some a
-value_from b digit a (x ∷ xs) = cond (eqb (digit x) b) none (value_from b digit (b * a + digit x) xs)
+-- The number whose digits are those of a, then the bytes given, if all of them are digits; `digit` reads a byte.
+abbrev pub value_from : ℕ → (ℕ → Option ℕ) → ℕ → List ℕ → Option ℕ
+value_from b digit a [] = Some a
+value_from b digit a (x ∷ xs) = do
+  d ← digit x
+  value_from b digit (b * a + d) xs
 
 -- There is a digit, and the first is no zero unless it is the only one.
 unfoldable pub plain : List ℕ → Bool
@@ -67,19 +65,21 @@ plain [] = false
 plain (x ∷ []) = true
 plain (x ∷ y ∷ ys) = not (eqb x 48)
 
-abbrev pub at_most : ℕ → Number → Number
-at_most max n = cond (n.good && leb n.value max) n none
+abbrev pub at_most : ℕ → Option ℕ → Option ℕ
+at_most max n = do
+  v ← n
+  then_some (leb v max) v
 
 -- The decimal that a field holds, if it is at most max.
-unfoldable pub decimal_of : ℕ → List ℕ → Number
-decimal_of max f = cond (plain f) (at_most max (value_from 10 dec_digit 0 f)) none
+unfoldable pub decimal_of : ℕ → List ℕ → Option ℕ
+decimal_of max f = cond (plain f) (at_most max (value_from 10 dec_digit 0 f)) None
 
 -- The word that a field holds.
-unfoldable pub hex_of : List ℕ → Number
-hex_of f = cond (eqb (length f) word_digits) (value_from 16 hex_digit 0 f) none
+unfoldable pub hex_of : List ℕ → Option ℕ
+hex_of f = cond (eqb (length f) word_digits) (value_from 16 hex_digit 0 f) None
 
--- The only byte of a field of one byte, else 0.
-unfoldable pub letter_of : List ℕ → ℕ
-letter_of [] = 0
-letter_of (x ∷ []) = x
-letter_of (x ∷ y ∷ ys) = 0
+-- The only byte of a field of one byte.
+unfoldable pub letter_of : List ℕ → Option ℕ
+letter_of [] = None
+letter_of (x ∷ []) = Some x
+letter_of (x ∷ y ∷ ys) = None

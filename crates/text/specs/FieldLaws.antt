@@ -1,5 +1,5 @@
 -- Fields written and read back, and what was read was written so.
-use Rattle.std.specs.Prelude.{ℕ, suc, ◌+◌, ◌-◌, ◌≤◌, ◌<◌, ◌≡◌, refl, Bool, true, false, ◌&&◌, ◌||◌, cond, List, [], ◌∷◌, ◌++◌, eqb, ltb, length, drop, get_or}
+use Rattle.std.specs.Prelude.{ℕ, suc, ◌+◌, ◌-◌, ◌≤◌, ◌<◌, ◌≡◌, refl, Bool, true, false, ◌&&◌, ◌||◌, cond, List, [], ◌∷◌, ◌++◌, eqb, ltb, length, drop, get_or, Some}
 use Rattle.std.proofs.Common.{sym, ap, ap₂, ◌∙◌, subst, append_assoc, arith, length-append, length-drop, drop-cons, get_or-drop, drop-drop, ltb-true, eqb-true, lt-ltb, eq-eqb}
 use Rattle.std.proofs.Math.Seq.{drop-length, drop-append_seam}
 use Rattle.base.specs.Tests.{and_true, or_false}
@@ -137,7 +137,7 @@ over_exact t e h =
 -- ---- the kind, which is the first field
 
 -- The kind that was written is read.
-pub kind_reads : (l : List ℕ) (k : ℕ) (fs : List (List ℕ)) → stopper k ≡ false → IsLineOf l k fs → letter_of (field_at l 0) ≡ k
+pub kind_reads : (l : List ℕ) (k : ℕ) (fs : List (List ℕ)) → stopper k ≡ false → IsLineOf l k fs → letter_of (field_at l 0) ≡ Some k
 unfolding letter_of IsLineOf
 kind_reads l k fs c h =
     ap (λ (t : List ℕ). letter_of (field_at t 0)) h ∙ ap letter_of (up_clean (k ∷ []) (tabbed fs ++ line_end) (c, tt) (stops fs))
@@ -148,10 +148,10 @@ unfolding IsLineOf
 line_ahead l k fs h = ap (drop 1) h
 
 -- A kind that was read was written before the fields.
-pub kind_exact : (l : List ℕ) (k : ℕ) (fs : List (List ℕ)) → 0 < k → letter_of (field_at l 0) ≡ k → Ahead l 1 fs → IsLineOf l k fs
+pub kind_exact : (l : List ℕ) (k : ℕ) (fs : List (List ℕ)) → letter_of (field_at l 0) ≡ Some k → Ahead l 1 fs → IsLineOf l k fs
 unfolding IsLineOf
-kind_exact l k fs p h a =
-    up_rest l ∙ ap (λ (f : List ℕ). f ++ drop (length f) l) (letter_one (up_to l) k p h) ∙ ap (λ (s : List ℕ). k ∷ s) a
+kind_exact l k fs h a =
+    up_rest l ∙ ap (λ (f : List ℕ). f ++ drop (length f) l) (letter_one (up_to l) k h) ∙ ap (λ (s : List ℕ). k ∷ s) a
 
 -- ---- the lines that are read
 

@@ -15,12 +15,13 @@ fn line_end(s: &[u8], at: usize) -> usize
     (s[at] == LF) as usize
 }
 
-// Where the field that starts at `from` ends.
+// Where the field that starts at `from` ends. The rules name this form (docs/RULES.md, "Which shape goes where"): a loop that yields
+// the end by `break`.
 fn field_end(s: &[u8], from: usize) -> usize
     ensures { result ≡ from + length (field_at s.now from) }
 {
     let mut i = from;
-    let end = loop {
+    loop {
         if s.len() <= i {
             break i;
         }
@@ -28,8 +29,7 @@ fn field_end(s: &[u8], from: usize) -> usize
             break i;
         }
         i += 1;
-    };
-    end
+    }
 }
 
 // Where the k bytes from `from` on end, if each of them belongs to the field there: none is a tab, or begins a line's end. Else
@@ -42,11 +42,8 @@ fn past(s: &[u8], from: usize, k: usize) -> usize
     }
     let end = from + k;
     let mut inside = true;
-    let mut i = from;
-    while i < end {
-        let x = s[i];
-        inside = inside & (x != TAB) & (x != LF);
-        i += 1;
+    for x in &s[from..end] {
+        inside = inside & (*x != TAB) & (*x != LF);
     }
     if inside { end } else { from }
 }

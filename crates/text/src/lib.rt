@@ -12,10 +12,3 @@ pub const LF: u8 = b'\n';
 
 // Hex digits of a 64-bit word.
 pub const WORD: usize = 16;
-
-// The number that a field holds. Where it holds none it is not good, and its value 0.
-#[derive(Clone, Copy)]
-pub struct Number {
-    pub good: bool,
-    pub value: u64,
-}

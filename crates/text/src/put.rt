@@ -1,4 +1,5 @@
-// Bytes put into lent memory at a place: whole, or not at all where they have no room.
+// Bytes put into lent memory at a place: whole, or not at all where they have no room. No Display: a line that
+// does not fit must touch no byte, and a formatter writes piece by piece.
 ghost use Rattle.std.specs.Prelude.{◌≡◌, [], ◌∷◌, ◌<◌};
 ghost use Rattle.text.specs.Digits.{hex_char, hex, decimal, width};
 ghost use Rattle.text.specs.Put.{placed, room};
@@ -31,7 +32,7 @@ pub(crate) fn hex_char(d: u8) -> u8
     b'0' + d + 39 * ((9 < d) as u8)
 }
 
-// The same, looked up: of one digit in fewer steps.
+// The same, looked up: of one digit in fewer steps. (Two forms for speed: `hex` needs the one without a table, `put_hex` the other.)
 fn listed_char(d: u8) -> u8
     requires { d < 16 }
     ensures { result ≡ hex_char d }
@@ -49,12 +50,8 @@ pub fn put_hex(s: &mut [u8], at: usize, w: u64)
     if !has_room(s, at, WORD) {
         return;
     }
-    let mut i = at;
-    let mut k: u32 = 16;
-    while 0 < k {
-        k -= 1;
-        s[i] = listed_char(((w >> (4 * k)) % 16) as u8);
-        i += 1;
+    for k in 0..WORD {
+        s[at + k] = listed_char(((w >> (4 * (WORD - 1 - k))) % 16) as u8);
     }
 }
 
@@ -62,13 +59,7 @@ pub fn put_hex(s: &mut [u8], at: usize, w: u64)
 pub fn width(v: u64) -> usize
     ensures { result ≡ width v }
 {
-    let mut k: usize = 1;
-    let mut rest = v;
-    while 10 <= rest {
-        rest = rest / 10;
-        k += 1;
-    }
-    k
+    v.max(1).ilog10() as usize + 1
 }
 
 // A decimal with no leading zero, from its last digit on. The answer is how many digits it has, also where they have no room.
@@ -79,10 +70,8 @@ pub fn put_decimal(s: &mut [u8], at: usize, v: u64) -> usize
     if !has_room(s, at, k) {
         return k;
     }
-    let mut i = at + k;
     let mut rest = v;
-    while at < i {
-        i -= 1;
+    for i in (at..at + k).rev() {
         s[i] = b'0' + ((rest % 10) as u8);
         rest = rest / 10;
     }

@@ -1,4 +1,6 @@
 -- Where the arms for a line's event meet: what they leave is what the definitions say.
+use Rattle.std.proofs.Common.{Option, None}
+use Rattle.entry.specs.declared.Entry.{Entry}
 use Prim.Native.Nat.{ℕ, ◌≤◌}
 use mathlib.Core.Path.{◌≡◌, refl, sym, ap, ◌∙◌, subst}
 use mathlib.Core.Bool.{true, false, cond}
@@ -13,8 +15,6 @@ use Rattle.messages.specs.declared.Message.{Message}
 use Rattle.messages.specs.declared.Message.TheVariants.{Acknowledge}
 use Rattle.messages.specs.declared.Request.{Request}
 use Rattle.replica.specs.declared.Replica.{Replica}
-use Rattle.replica.specs.declared.Decided.{Decided}
-use Rattle.replica.specs.declared.Sent.{Sent}
 use Rattle.replica.specs.declared.Step.{Step}
 use Rattle.replica.specs.Steps.{step_of, refused, acknowledge_step, ask_with}
 use Rattle.transcript.specs.declared.sort.Event.{Event}
@@ -58,7 +58,7 @@ pub record Made (e : Event) (s : Replica) (q : Request) (rows : Rows) (was : ℤ
   pub step : t ≡ step_after e s q rows
   pub counted : m ≡ margin_after e (step_after e s q rows) was
 
-module _ {e : Event} {s : Replica} {q : Request} {rows : Rows} {was : ℤ} {replica : Replica} {m : ℤ} {number : ℕ} {decided : Decided} {sent : Sent} where
+module _ {e : Event} {s : Replica} {q : Request} {rows : Rows} {was : ℤ} {replica : Replica} {m : ℤ} {number : ℕ} {decided : Option Entry} {sent : Option Message} where
   -- An arm that stores what the step r has.
   stores : {x : Event} {r : Step} → e ≡ x → r ≡ step_after x s q rows → replica ≡ r.next → m ≡ margin_after x r was → number ≡ r.number
       → decided ≡ r.decided → sent ≡ r.sent → Made e s q rows was (step_of number replica decided sent) m
@@ -68,12 +68,12 @@ module _ {e : Event} {s : Replica} {q : Request} {rows : Rows} {was : ℤ} {repl
 
   -- 19
   pub unread_made : {x : Event} → e ≡ x → refused 19 s ≡ step_after x s q rows → counts x ≡ false → replica ≡ s → m ≡ was → number ≡ 19
-      → decided ≡ Decided.Nothing → sent ≡ Sent.Nothing → Made e s q rows was (step_of number replica decided sent) m
+      → decided ≡ None → sent ≡ None → Made e s q rows was (step_of number replica decided sent) m
   unread_made is step quiet a k b c d = stores is step a (k ∙ sym (rw quiet)) b c d
 
   -- A message that is no A.
   pub heard_made : {x y : Message} {r : Step} → e ≡ Event.Heard x → x ≡ y → is_acknowledge y ≡ false → r ≡ heard s y → replica ≡ r.next
-      → m ≡ was → number ≡ r.number → decided ≡ Decided.Nothing → sent ≡ r.sent
+      → m ≡ was → number ≡ r.number → decided ≡ None → sent ≡ r.sent
       → Made e s q rows was (step_of number replica decided sent) m
   heard_made {y = y} is kind other step a k b c d =
       let none = c ∙ sym (ap (λ (t : Step). t.decided) step ∙ heard_undecided s y other) in
@@ -82,14 +82,14 @@ module _ {e : Event} {s : Replica} {q : Request} {rows : Rows} {was : ℤ} {repl
   -- An A.
   pub acknowledge_made : {x : Message} {a : Assent} {r : Step} → e ≡ Event.Heard x → x ≡ Acknowledge a → r ≡ acknowledge_step s a
       → replica ≡ r.next → m ≡ margin_after (Event.Heard (Acknowledge a)) r was → number ≡ r.number → decided ≡ r.decided
-      → sent ≡ Sent.Nothing → Made e s q rows was (step_of number replica decided sent) m
+      → sent ≡ None → Made e s q rows was (step_of number replica decided sent) m
   acknowledge_made {a = y} is kind step a k b c d =
       let none = d ∙ sym (ap (λ (t : Step). t.sent) step ∙ acknowledge_silent s y) in
       stores (is ∙ ap Event.Heard kind) step a k b c none
 
   -- The last row of a request, or a request without rows.
   pub asked_made : {r : Step} → (e ≡ Event.Unread → ⊥) → ((x : Message) → e ≡ Event.Heard x → ⊥) → r ≡ ask_with s q rows → replica ≡ r.next → m ≡ was → number ≡ r.number
-      → decided ≡ Decided.Nothing → sent ≡ r.sent → Made e s q rows was (step_of number replica decided sent) m
+      → decided ≡ None → sent ≡ r.sent → Made e s q rows was (step_of number replica decided sent) m
   asked_made {r} h l step a k b c d = go e refl
     where
       none : decided ≡ r.decided

@@ -1,4 +1,7 @@
 -- Fields put one after the other, and lines put into a part of the lent memory.
+use Rattle.std.proofs.Common.{Option, None, Result, Ok}
+use Rattle.std.specs.Result.{result_unwrap_or}
+use Rattle.base.specs.declared.refusal.Refusal.{Refusal}
 use Prim.Native.Nat.{ℕ, ◌+◌, ◌-◌, ◌≤◌, ◌<◌}
 use mathlib.Core.Path.{◌≡◌, refl, sym, ap, ap₂, ◌∙◌}
 use mathlib.Core.Bool.{Bool, true, false, not, ◌||◌, cond}
@@ -17,15 +20,13 @@ use Rattle.text.specs.Fields.{tab, lf, line_end}
 use Rattle.text.specs.Put.{placed, Puts}
 use Rattle.text.specs.PutLaws.{puts_placed, become, put_then}
 use Rattle.messages.specs.declared.Message.{Message}
-use Rattle.messages.specs.declared.write.Written.{Written}
 use Rattle.messages.specs.Lines.{line}
-use Rattle.messages.specs.Writer.{writable, writer_number, written, lent, afterwards}
-use Rattle.replica.specs.declared.Decided.{Decided}
-use Rattle.replica.specs.declared.Sent.{Sent}
+use Rattle.messages.specs.Writer.{writable, written, lent, afterwards}
 use Rattle.transcript.specs.declared.State.{State}
 use Rattle.transcript.specs.Printed.{decided_text, signed, sent_text, told, event_line}
 use Rattle.transcript.specs.Transcript.{bad_setup}
 use Rattle.transcript.specs.Feeding.{next_event, last_text, event_room, within}
+use Rattle.entry.specs.declared.Entry.{Entry}
 
 -- A text, and one byte behind it.
 pub byte_behind : (b : List ℕ) (p : ℕ) (f c : List ℕ) (k x r : ℕ) (d g : List ℕ) → c ≡ placed b p f → k ≡ length f
@@ -44,8 +45,8 @@ told_put b p f q c fs rest r d one two =
     (put_then b p (f ++ (tab ∷ [])) q c (told fs rest) r d one two)
 
 -- The fields of an event's line, with the margin as it was passed.
-pub event_put : (b : List ℕ) (p k q : ℕ) (c : List ℕ) (number q1 : ℕ) (c1 : List ℕ) (d : Decided) (q2 : ℕ) (c2 : List ℕ)
-    (m seen : ℤ) (q3 : ℕ) (c3 : List ℕ) (x : Sent) (r : ℕ) (e : List ℕ)
+pub event_put : (b : List ℕ) (p k q : ℕ) (c : List ℕ) (number q1 : ℕ) (c1 : List ℕ) (d : Option Entry) (q2 : ℕ) (c2 : List ℕ)
+    (m seen : ℤ) (q3 : ℕ) (c3 : List ℕ) (x : Option Message) (r : ℕ) (e : List ℕ)
     → Puts b p (decimal k ++ (tab ∷ [])) q c → Puts c q (decimal number ++ (tab ∷ [])) q1 c1
     → Puts c1 q1 (decided_text d ++ (tab ∷ [])) q2 c2 → seen ≡ m → Puts c2 q2 (signed seen ++ (tab ∷ [])) q3 c3
     → Puts c3 q3 (sent_text x) r e → Puts b p (event_line k number d m x) r e
@@ -106,28 +107,27 @@ module _ (b : List ℕ) (p : ℕ) (text : List ℕ) (fits : p + length text ≤ 
 -- ---- the writer
 
 -- A message that has a line, which has room, is written.
-writes : (buf : List ℕ) (m : Message) → writable m ≡ true → length (line m) ≤ length buf → writer_number buf m ≡ 0
-writes buf m can room = simp (can, le-ltb (length buf) (length (line m)) room)
-
-written_as : (buf : List ℕ) (m : Message) → writer_number buf m ≡ 0
-    → ((written buf m).length ≡ length (line m)) × (afterwards buf m ≡ lent buf (line m))
+written_as : (buf : List ℕ) (m : Message) → writable m ≡ true → length (line m) ≤ length buf
+    → (written buf m ≡ Ok (length (line m))) × (afterwards buf m ≡ lent buf (line m))
 unfolding written afterwards
-written_as buf m z = (simp z, simp z)
+written_as buf m can room =
+    let fits = le-ltb (length buf) (length (line m)) room in
+    (simp (can, fits), simp (can, fits))
 
--- It is written at the front of a part.
-module _ (b : List ℕ) (p : ℕ) (m : Message) (w : Written) (can : writable m ≡ true) (fits : p + length (line m) ≤ length b)
-    (is : w ≡ written (part_from b p) m) where
-  as_written : ((written (part_from b p) m).length ≡ length (line m)) × (afterwards (part_from b p) m ≡ lent (part_from b p) (line m))
+-- It is written at the front of a part; the writer's answer is its length.
+module _ (b : List ℕ) (p : ℕ) (m : Message) (w : Result ℕ Refusal) (size : ℕ) (can : writable m ≡ true) (fits : p + length (line m) ≤ length b)
+    (is : w ≡ written (part_from b p) m) (taken : size ≡ result_unwrap_or w 0) where
+  as_written : (written (part_from b p) m ≡ Ok (length (line m))) × (afterwards (part_from b p) m ≡ lent (part_from b p) (line m))
   as_written =
       let long = ap length (part_all b p (line m) fits) ∙ length-drop p b in
-      written_as (part_from b p) m (writes (part_from b p) m can (omega arith))
+      written_as (part_from b p) m can (omega arith)
 
-  pub message_size : w.length ≡ length (line m)
-  message_size = ap (λ (x : Written). x.length) is ∙ as_written.0
+  pub message_size : size ≡ length (line m)
+  message_size = taken ∙ ap (λ (x : Result ℕ Refusal). result_unwrap_or x 0) (is ∙ as_written.0)
 
-  pub message_put : (c : List ℕ) → c ≡ afterwards (part_from b p) m → Puts b p (line m) (p + w.length) (with_part b p c)
+  pub message_put : (c : List ℕ) → c ≡ afterwards (part_from b p) m → Puts b p (line m) (p + size) (with_part b p c)
   message_put c after =
-      part_put b p (line m) fits c (p + w.length) (after ∙ as_written.1) (ap (λ (n : ℕ). p + n) message_size)
+      part_put b p (line m) fits c (p + size) (after ∙ as_written.1) (ap (λ (n : ℕ). p + n) message_size)
 
 -- ---- the whole of the lent memory
 
@@ -160,7 +160,7 @@ unfolding last_text
 last_none st more h = sym (simp (not-true (due st more) h))
 
 pub last_event_lem : (st : State) (more : Bool) (k : ℕ) (m : ℤ) → not (due st more) ≡ false → k ≡ next_event st.events
-    → m ≡ st.margin → event_line k 19 Decided.Nothing m Sent.Nothing ≡ last_text st more
+    → m ≡ st.margin → event_line k 19 None m None ≡ last_text st more
 unfolding last_text
 last_event_lem st more k m h is same =
-    ap₂ (λ (j : ℕ) (z : ℤ). event_line j 19 Decided.Nothing z Sent.Nothing) is same ∙ sym (simp (not-false (due st more) h))
+    ap₂ (λ (j : ℕ) (z : ℤ). event_line j 19 None z None) is same ∙ sym (simp (not-false (due st more) h))

@@ -1,4 +1,5 @@
 -- The rows of a request that goes out, put one after the other in seat order.
+use Rattle.std.proofs.Common.{Option, Some, None}
 use Prim.Native.Nat.{ℕ, zero, suc, ◌+◌, ◌*◌, ◌≤◌, ◌<◌, ◌^◌}
 use mathlib.Core.Path.{◌≡◌, refl, sym, ap, ◌∙◌}
 use mathlib.Core.Bool.{Bool, true, false, ◌&&◌, cond}
@@ -20,7 +21,6 @@ use Rattle.seats.specs.Mask.{bit}
 use Rattle.votes.specs.declared.Row.{Row}
 use Rattle.votes.specs.declared.Vote.{Vote}
 use Rattle.votes.specs.declared.VoteRows.{VoteRows}
-use Rattle.votes.specs.declared.SeatRow.{SeatRow}
 use Rattle.votes.specs.Vote.{valid}
 use Rattle.votes.specs.VoteLaws.{valid_below}
 use Rattle.votes.specs.Rows.{vote_at, has_row}
@@ -38,13 +38,13 @@ lines_append [] ys = refl
 lines_append (r ∷ xs) ys =
     ap (λ (t : List ℕ). line (Cast r) ++ t) (lines_append xs ys) ∙ sym (append_assoc (line (Cast r)) (row_lines xs) (row_lines ys))
 
-list_append : (r : SeatRow) (xs ys : List Row) → row_list r (xs ++ ys) ≡ row_list r xs ++ ys
-list_append SeatRow.Empty xs ys = refl
-list_append (SeatRow.Filled r) xs ys = refl
+list_append : (r : Option Row) (xs ys : List Row) → row_list r (xs ++ ys) ≡ row_list r xs ++ ys
+list_append None xs ys = refl
+list_append (Some r) xs ys = refl
 
 module _ (n f : ℕ) (v : View) (t : VoteRows) where
   -- Seat k's row.
-  abbrev pub seat_row : ℕ → SeatRow
+  abbrev pub seat_row : ℕ → Option Row
   seat_row k = row_sent n f v t (record { 0 = k })
 
   sent_last : (k d : ℕ) → sent_from n f v t k (suc d) ≡ sent_from n f v t k d ++ row_list (seat_row (k + d)) []
@@ -65,11 +65,11 @@ module _ (n f : ℕ) (v : View) (t : VoteRows) where
       sym (ap row_lines last ∙ lines_append rows (row_list (seat_row k) []))
 
   -- Seat k's row is put behind them.
-  pub row_more : (b : List ℕ) (p k q : ℕ) (c : List ℕ) (row : SeatRow) (r : ℕ) (d : List ℕ) → Puts b p (lines_below k) q c
+  pub row_more : (b : List ℕ) (p k q : ℕ) (c : List ℕ) (row : Option Row) (r : ℕ) (d : List ℕ) → Puts b p (lines_below k) q c
       → row ≡ seat_row k → Puts c q (row_lines (row_list row [])) r d → Puts b p (lines_below (k + 1)) r d
   row_more b p k q c row r d before is this =
       let text = row_lines (row_list (seat_row k) []) in
-      let same = ap (λ (x : SeatRow). row_lines (row_list x [])) is in
+      let same = ap (λ (x : Option Row). row_lines (row_list x [])) is in
       let it = become c q (row_lines (row_list row [])) text r d same this in
       become b p (lines_below k ++ text) (lines_below (k + 1)) r d (lines_last k ∙ ap lines_below (sym (add-one k)))
       (put_then b p (lines_below k) q c text r d before it)
@@ -79,7 +79,7 @@ module _ (n f : ℕ) (v : View) (t : VoteRows) where
   unfolding row_sent row_at writable
   row_writable k h = go (ltb k n && has_row n f v t k)
     where
-      go : (b : Bool) → RowWritable (cond b (SeatRow.Filled (row_at v t (record { 0 = k }))) SeatRow.Empty)
+      go : (b : Bool) → RowWritable (cond b (Some (row_at v t (record { 0 = k }))) None)
       go true = le-leb k top_seat h
       go false = tt
 
@@ -102,7 +102,7 @@ module _ (n f : ℕ) (v : View) (t : VoteRows) where
         row = row_at v t (record { 0 = k })
 
         go : (b : Bool) → (ltb k n && has_row n f v t k) ≡ b
-            → length (row_lines (row_list (cond b (SeatRow.Filled row) SeatRow.Empty) [])) ≤ row_room
+            → length (row_lines (row_list (cond b (Some row) None) [])) ≤ row_room
         go true e =
             let held = (and_true (ltb k n) (has_row n f v t k) e).1 in
             let good = (and_true (bit t.filled k) (valid n f v (vote_at t.votes k)) held).1 in

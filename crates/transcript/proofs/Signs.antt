@@ -1,12 +1,11 @@
--- A number with its sign, as the code takes it apart: the size of one below zero is taken at 64 bits, where it has room.
-use Prim.Native.Nat.{ℕ, suc, ◌<◌, ◌^◌}
+-- A number with its sign, as the code takes it apart.
+use Prim.Native.Nat.{ℕ, ◌<◌, ◌^◌}
 use mathlib.Core.Path.{◌≡◌, refl, sym, ap, ◌∙◌, subst}
 use mathlib.Core.Bool.{true, false}
 use mathlib.Core.List.{◌∷◌}
 use native.Mathlib.Omega.{arith}
-use native.Mathlib.Nat.{zero-add}
 use lib.Dec.{T}
-use lib.IntN.{ℤ, pos, negsuc, nat_abs, ◌-ℤ◌}
+use lib.IntN.{ℤ, pos, negsuc, nat_abs}
 use lib.Signed.{mag, non_neg, lt_z}
 use mir.Syntax.{w32, w64}
 use mir.Val.{Fits, SFits, to_z, of_z}
@@ -43,39 +42,13 @@ module _ (m : ℤ) (f : SFits w32 m) where
   seen_is : seen ≡ m
   seen_is = to_z-of_z f
 
-  pub seen_wide : SFits w64 seen
-  seen_wide = subst (SFits w64) (sym seen_is) (record { sfits = omega (arith, f.sfits) })
-
-  -- The same at 64 bits, and turned round.
-  abbrev turned : ℤ
-  turned = pos 0 -ℤ to_z w64 (of_z w64 seen)
-
-  abbrev size : ℤ
-  size = to_z w64 (of_z w64 turned)
-
   module _ (neg : lt_z seen (pos 0) ≡ true) where
     here : Below m
     here = below m (ap (λ (z : ℤ). lt_z z (pos 0)) (sym seen_is) ∙ neg)
 
-    turned_is : turned ≡ pos (suc here.n)
-    turned_is =
-        ap (λ (z : ℤ). pos 0 -ℤ z) (to_z-of_z seen_wide ∙ seen_is ∙ here.is) ∙ ap pos (zero-add (suc here.n))
-
-    small : here.n < 2 ^ 31
-    small = subst (λ (z : ℤ). mag z < 2 ^ 31) here.is f.sfits
-
-    pub turned_fits : SFits w64 turned
-    turned_fits = subst (SFits w64) (sym turned_is) (record { sfits = omega (arith, small) })
-
-    size_is : size ≡ pos (suc here.n)
-    size_is = to_z-of_z turned_fits ∙ turned_is
-
-    pub size_fits : T (non_neg size) × Fits w64 (nat_abs size)
-    size_fits = subst (λ (z : ℤ). T (non_neg z) × Fits w64 (nat_abs z)) (sym size_is) (tt, record { fits = omega (arith, small) })
-
-    pub below_zero : dash ∷ decimal (nat_abs size) ≡ signed m
+    pub below_zero : dash ∷ decimal (nat_abs seen) ≡ signed m
     unfolding signed
-    below_zero = ap (λ (z : ℤ). dash ∷ decimal (nat_abs z)) size_is ∙ sym (ap signed here.is)
+    below_zero = ap (λ (z : ℤ). dash ∷ decimal (nat_abs z)) (seen_is ∙ here.is) ∙ sym (ap signed here.is)
 
   module _ (neg : lt_z seen (pos 0) ≡ false) where
     there : Counted m

@@ -1,4 +1,5 @@
 -- What a line does and prints, in plain values.
+use Rattle.std.proofs.Common.{Option, Some, None}
 use Prim.Native.Nat.{ℕ, ◌≤◌, ◌<◌}
 use mathlib.Core.Path.{◌≡◌, refl, sym, ap, ap₂, ◌∙◌}
 use mathlib.Core.Bool.{Bool, false, cond}
@@ -12,7 +13,6 @@ use Rattle.votes.specs.declared.Rows.{Rows}
 use Rattle.messages.specs.declared.Message.TheVariants.{Start, Enter, Propose, Acknowledge, Cast, Ask, Confirm}
 use Rattle.messages.specs.declared.Request.{Request}
 use Rattle.replica.specs.declared.Replica.{Replica}
-use Rattle.replica.specs.declared.Sent.{Sent}
 use Rattle.replica.specs.declared.Step.{Step}
 use Rattle.replica.specs.Steps.{request_rows}
 use Rattle.transcript.specs.declared.State.{State}
@@ -21,6 +21,7 @@ use Rattle.transcript.specs.declared.sort.Sorted.{Sorted}
 use Rattle.transcript.specs.Printed.{event_line, rows_behind, row_lines, printed, sends_ask}
 use Rattle.transcript.specs.Feeding.{sort_in, step_after, margin_after, next_event, waiting, step_in, stepped, state_by, text_by, state_after, text_of}
 use Rattle.transcript.proofs.Meeting.{Taken, Made}
+use Rattle.messages.specs.declared.Message.{Message}
 
 abbrev pub standing : ℕ → ℤ → ℕ → Bool → Bool → Request → Replica → Rows → State
 standing events m left spoiled cut request replica rows = record {
@@ -67,15 +68,15 @@ module _ (st : State) (l : List ℕ) {e : Sorted} {event : Event} {request : Req
 
 -- ---- what is printed of an event
 
-rows_behind_lem : (x : Sent) (rows : List Row) → cond (sends_ask x) (row_lines rows) [] ≡ rows_behind x rows
-rows_behind_lem Sent.Nothing rows = refl
-rows_behind_lem (Sent.Message Start) rows = refl
-rows_behind_lem (Sent.Message (Enter v)) rows = refl
-rows_behind_lem (Sent.Message (Propose p)) rows = refl
-rows_behind_lem (Sent.Message (Acknowledge a)) rows = refl
-rows_behind_lem (Sent.Message (Cast r)) rows = refl
-rows_behind_lem (Sent.Message (Ask q)) rows = refl
-rows_behind_lem (Sent.Message (Confirm c)) rows = refl
+rows_behind_lem : (x : Option Message) (rows : List Row) → cond (sends_ask x) (row_lines rows) [] ≡ rows_behind x rows
+rows_behind_lem None rows = refl
+rows_behind_lem (Some Start) rows = refl
+rows_behind_lem (Some (Enter v)) rows = refl
+rows_behind_lem (Some (Propose p)) rows = refl
+rows_behind_lem (Some (Acknowledge a)) rows = refl
+rows_behind_lem (Some (Cast r)) rows = refl
+rows_behind_lem (Some (Ask q)) rows = refl
+rows_behind_lem (Some (Confirm c)) rows = refl
 
 -- Its line, and then the rows where a Q goes out.
 pub put_printed : (k : ℕ) (t : Step) (m : ℤ) {b : List ℕ} {p r : ℕ} {c : List ℕ} {q : ℕ} {d : List ℕ} {asks : Bool}

@@ -1,10 +1,9 @@
 -- The line H: where a trace begins, and what is printed where it does not.
-use Rattle.std.specs.Prelude.{ℕ, ◌≤◌, ◌<◌, ◌≡◌, refl, false, cond, List, [], ◌∷◌, ◌++◌, eqb, length}
+use Rattle.std.specs.Prelude.{ℕ, ◌≤◌, ◌<◌, ◌≡◌, refl, false, cond, List, [], ◌∷◌, ◌++◌, eqb, length, Option, Some, None}
 use Rattle.std.proofs.Common.{sym, ap, ◌∙◌, append-nil, arith, length-append}
 use Rattle.base.specs.Tests.{true≢false}
 use Rattle.text.specs.Digits.{letter_of}
 use Rattle.text.specs.Fields.{lf, line_end}
-use Rattle.messages.specs.declared.setup.Opening.{Opening}
 use Rattle.messages.specs.Longest.{longest_read}
 use Rattle.messages.specs.Setup.{read_setup}
 use Rattle.messages.specs.SetupLaws.{setup_only, setup_short, setup_ended}
@@ -14,18 +13,19 @@ use Rattle.transcript.specs.Feeding.{last_event, begun_as, begun_by}
 use Rattle.transcript.specs.LineLaws.{has_end, lines_few, lines_none, lines_front, lines_alone, lines_whole, ends_there}
 use Rattle.transcript.specs.RestLaws.{rest}
 use Rattle.transcript.specs.FeedLaws.{feeds}
+use Rattle.messages.specs.declared.setup.Setup.{Setup}
 
 -- ---- what is no H
 
 -- It ends with an LF, as every line does, and is no longer than the longest.
-no_setup : (l : List ℕ) → has_end l ≡ false → read_setup l ≡ Opening.Malformed
+no_setup : (l : List ℕ) → has_end l ≡ false → read_setup l ≡ None
 no_setup l n =
-    sym (setup_only l Opening.Malformed (λ h f e.
+    sym (setup_only l None (λ h f e.
     let w = setup_ended l h e in
     true≢false (sym (ends_there w.0) ∙ ap has_end (sym w.1) ∙ n)))
 
-long_setup : (l : List ℕ) → longest_read < length l → read_setup l ≡ Opening.Malformed
-long_setup l h = sym (setup_only l Opening.Malformed (λ s f e. omega (arith, setup_short l s f e)))
+long_setup : (l : List ℕ) → longest_read < length l → read_setup l ≡ None
+long_setup l h = sym (setup_only l None (λ s f e. omega (arith, setup_short l s f e)))
 
 -- ---- the first line
 
@@ -35,9 +35,9 @@ pub begins : (l : List ℕ) (ls : List (List ℕ)) → length ls ≤ last_event
 unfolding begun_by
 begins l ls small = go (read_setup l)
   where
-    go : (o : Opening) → opened o ls ≡ cond (eqb (begun_as o).number 0) (rest (begun_as o).state ls) (bad_setup (begun_as o).number)
-    go Opening.Malformed = refl
-    go (Opening.Read h) =
+    go : (o : Option Setup) → opened o ls ≡ cond (eqb (begun_as o).number 0) (rest (begun_as o).state ls) (bad_setup (begun_as o).number)
+    go None = refl
+    go (Some h) =
         let t = setup_of h in
         ap (λ (x : List ℕ). cond (eqb t.number 0) x (bad_setup t.number)) (sym (feeds t.next ls small))
 
@@ -47,8 +47,8 @@ unfolding begun_by read_setup letter_of
 begins_none = refl
 
 -- "the number is 19 for a malformed or missing H": a first line that is none is as if it were missing.
-bad_setup_lem : (l : List ℕ) (ls : List (List ℕ)) → read_setup l ≡ Opening.Malformed → output (l ∷ ls) ≡ bad_setup (begun_by []).number
-bad_setup_lem l ls e = ap (λ (o : Opening). opened o ls) e ∙ begins_none
+bad_setup_lem : (l : List ℕ) (ls : List (List ℕ)) → read_setup l ≡ None → output (l ∷ ls) ≡ bad_setup (begun_by []).number
+bad_setup_lem l ls e = ap (λ (o : Option Setup). opened o ls) e ∙ begins_none
 
 -- The input ends before its first LF.
 pub ends_setup : (w : List ℕ) → has_end w ≡ false → transcript w ≡ bad_setup (begun_by []).number

@@ -1,6 +1,6 @@
 -- The same line by line, as the code goes: nobody need believe it, since `feeds` in FeedLaws.antt says that it prints what
 -- Transcript.antt asks for, and `goes_on` in GoesOn.antt that it leaves the replica that `step` makes.
-use Rattle.std.specs.Prelude.{ℕ, ◌+◌, ◌-◌, ◌^◌, Bool, true, false, ◌&&◌, ◌||◌, cond, List, [], ◌∷◌, ◌++◌, eqb, leb, ltb, length, ℤ}
+use Rattle.std.specs.Prelude.{ℕ, ◌+◌, ◌-◌, ◌^◌, Bool, true, false, ◌&&◌, ◌||◌, cond, List, [], ◌∷◌, ◌++◌, eqb, leb, ltb, length, ℤ, Option, Some, None, is_some}
 use Rattle.text.specs.Fields.{lf}
 use Rattle.entry.specs.Entry.{zero_entry}
 use Rattle.acks.specs.Acks.{row_of, margin}
@@ -9,15 +9,10 @@ use Rattle.votes.specs.Rows.{no_rows, added}
 use Rattle.messages.specs.declared.Message.{Message}
 use Rattle.messages.specs.declared.Message.TheVariants.{Start, Enter, Propose, Acknowledge, Cast, Ask, Confirm}
 use Rattle.messages.specs.declared.Request.{Request}
-use Rattle.messages.specs.declared.read.Line.{Line}
-use Rattle.messages.specs.declared.read.Line.TheVariants.{Read, Malformed}
 use Rattle.messages.specs.declared.setup.Setup.{Setup}
-use Rattle.messages.specs.declared.setup.Opening.{Opening}
 use Rattle.messages.specs.Reader.{read_line}
 use Rattle.messages.specs.Setup.{read_setup}
 use Rattle.replica.specs.declared.Replica.{Replica}
-use Rattle.replica.specs.declared.Decided.{Decided}
-use Rattle.replica.specs.declared.Sent.{Sent}
 use Rattle.replica.specs.declared.Step.{Step}
 use Rattle.replica.specs.Replica.{margin_of}
 use Rattle.replica.specs.Steps.{refused, start_step, enter_step, propose_step, acknowledge_step, cast_step, ask_with, confirm_step}
@@ -32,8 +27,8 @@ use Rattle.transcript.specs.Transcript.{setup_of}
 -- ---- what a line is
 
 -- A line whose front was dropped is too long to be any.
-abbrev pub read_unless : Bool → List ℕ → Line
-read_unless cut l = cond cut Malformed (read_line l)
+abbrev pub read_unless : Bool → List ℕ → Option Message
+read_unless cut l = cond cut None (read_line l)
 
 abbrev pub sorted_as : Event → ℕ → Bool → Sorted
 sorted_as e left spoiled = record { event = e; left = left; spoiled = spoiled }
@@ -42,33 +37,33 @@ abbrev pub spoiled_row : ℕ → Sorted
 spoiled_row left = sorted_as Event.Unread left true
 
 -- A line where a row is awaited; `left` are those behind it.
-abbrev pub row_in : Line → ℕ → Sorted
-row_in (Read (Cast r)) left = sorted_as (Event.Row r) left false
-row_in (Read Start) left = spoiled_row left
-row_in (Read (Enter v)) left = spoiled_row left
-row_in (Read (Propose p)) left = spoiled_row left
-row_in (Read (Acknowledge a)) left = spoiled_row left
-row_in (Read (Ask q)) left = spoiled_row left
-row_in (Read (Confirm c)) left = spoiled_row left
-row_in Malformed left = spoiled_row left
+abbrev pub row_in : Option Message → ℕ → Sorted
+row_in (Some (Cast r)) left = sorted_as (Event.Row r) left false
+row_in (Some Start) left = spoiled_row left
+row_in (Some (Enter v)) left = spoiled_row left
+row_in (Some (Propose p)) left = spoiled_row left
+row_in (Some (Acknowledge a)) left = spoiled_row left
+row_in (Some (Ask q)) left = spoiled_row left
+row_in (Some (Confirm c)) left = spoiled_row left
+row_in None left = spoiled_row left
 
-unfoldable pub sorted_row : Line → ℕ → Bool → Sorted
+unfoldable pub sorted_row : Option Message → ℕ → Bool → Sorted
 sorted_row l left spoiled = cond spoiled (spoiled_row left) (row_in l left)
 
 abbrev pub heard_as : Message → Sorted
 heard_as m = sorted_as (Event.Heard m) 0 false
 
-unfoldable pub sorted_line : Line → Sorted
-sorted_line (Read (Ask q)) = sorted_as (Event.Opened q) q.count false
-sorted_line (Read Start) = heard_as Start
-sorted_line (Read (Enter v)) = heard_as (Enter v)
-sorted_line (Read (Propose p)) = heard_as (Propose p)
-sorted_line (Read (Acknowledge a)) = heard_as (Acknowledge a)
-sorted_line (Read (Cast r)) = heard_as (Cast r)
-sorted_line (Read (Confirm c)) = heard_as (Confirm c)
-sorted_line Malformed = sorted_as Event.Unread 0 false
+unfoldable pub sorted_line : Option Message → Sorted
+sorted_line (Some (Ask q)) = sorted_as (Event.Opened q) q.count false
+sorted_line (Some Start) = heard_as Start
+sorted_line (Some (Enter v)) = heard_as (Enter v)
+sorted_line (Some (Propose p)) = heard_as (Propose p)
+sorted_line (Some (Acknowledge a)) = heard_as (Acknowledge a)
+sorted_line (Some (Cast r)) = heard_as (Cast r)
+sorted_line (Some (Confirm c)) = heard_as (Confirm c)
+sorted_line None = sorted_as Event.Unread 0 false
 
-unfoldable pub sorted : Line → ℕ → Bool → Sorted
+unfoldable pub sorted : Option Message → ℕ → Bool → Sorted
 sorted l left spoiled = cond (ltb 0 left) (sorted_row l (left - 1) spoiled) (sorted_line l)
 
 -- ---- what it does
@@ -211,13 +206,9 @@ fed_of r = record { used = r.used; put = length r.text; state = r.state }
 -- ---- the beginning and the end
 
 -- What H says; zeros where it is none.
-abbrev pub setup_said : Opening → Setup
-setup_said (Opening.Read h) = h
-setup_said Opening.Malformed = record { n = 0; f = 0; dash = false; seat = record { 0 = 0 }; entry = zero_entry }
-
-abbrev pub was_read : Opening → Bool
-was_read (Opening.Read h) = true
-was_read Opening.Malformed = false
+abbrev pub setup_said : Option Setup → Setup
+setup_said (Some h) = h
+setup_said None = record { n = 0; f = Some 0; seat = record { 0 = 0 }; entry = zero_entry }
 
 abbrev pub no_request : Request
 no_request = record { head = record { seat = record { 0 = 0 }; verified = false; view = record { 0 = 0 } }; entry = zero_entry; count = 0 }
@@ -238,8 +229,8 @@ resumed s = record {
 abbrev pub first_state : Step → State
 first_state t = resumed t.next
 
-abbrev pub begun_as : Opening → Begun
-begun_as o = record { number = cond (was_read o) (setup_of (setup_said o)).number 19; state = first_state (setup_of (setup_said o)) }
+abbrev pub begun_as : Option Setup → Begun
+begun_as o = record { number = cond (is_some o) (setup_of (setup_said o)).number 19; state = first_state (setup_of (setup_said o)) }
 
 unfoldable pub begun_by : List ℕ → Begun
 begun_by l = begun_as (read_setup l)
@@ -260,7 +251,7 @@ cut_state st = record {
 unfoldable pub last_text : State → Bool → List ℕ
 last_text st more =
     cond ((more || st.cut) || ltb 0 st.left)
-    (event_line (next_event st.events) 19 Decided.Nothing st.margin Sent.Nothing)
+    (event_line (next_event st.events) 19 None st.margin None)
     []
 
 -- Nothing is put where an event has no room.

@@ -1,20 +1,17 @@
 -- Line by line, as Feeding.antt goes, the steps are those that Transcript.antt asks for, event after event: `line_by_line`.
 -- FeedLaws.antt has from it what is printed, and GoesOn.antt which replica is left.
 use Prim.Native.Nat.{ℕ, zero, suc, ◌-◌}
-use Rattle.std.specs.Prelude.{◌≡◌, Bool, true, cond, ltb, ℤ}
+use Rattle.std.specs.Prelude.{◌≡◌, Bool, true, cond, ltb, ℤ, Option, Some, None}
 use Rattle.std.proofs.Math.Path.{refl, ap}
 use Rattle.std.proofs.Common.{sym, ap₂, ◌∙◌, arith, lt-ltb}
 use Rattle.std.proofs.Math.Bool.{false}
 use mathlib.Core.List.{List, [], ◌∷◌, ◌++◌, append_assoc}
-use Rattle.std.proofs.Math.Option.{Option, none, some}
 use Rattle.votes.specs.declared.Row.{Row}
 use Rattle.votes.specs.declared.Rows.{Rows}
 use Rattle.votes.specs.Rows.{no_rows, added, gathered}
 use Rattle.messages.specs.declared.Message.{Message}
 use Rattle.messages.specs.declared.Message.TheVariants.{Start, Enter, Propose, Acknowledge, Cast, Ask, Confirm}
 use Rattle.messages.specs.declared.Request.{Request}
-use Rattle.messages.specs.declared.read.Line.{Line}
-use Rattle.messages.specs.declared.read.Line.TheVariants.{Read, Malformed}
 use Rattle.messages.specs.Reader.{read_line}
 use Rattle.replica.specs.declared.Replica.{Replica}
 use Rattle.replica.specs.declared.Step.{Step}
@@ -65,31 +62,31 @@ steps_in st (l ∷ ls) = steps_by st (sort_in st l) (steps_in (state_after st l)
 
 -- A line where a row is awaited is one, or spoils the Q.
 abbrev row_or_none : Option Row → ℕ → Sorted
-row_or_none (some r) left = sorted_as (Event.Row r) left false
-row_or_none none left = spoiled_row left
+row_or_none (Some r) left = sorted_as (Event.Row r) left false
+row_or_none None left = spoiled_row left
 
-row_in_lem : (l : Line) (left : ℕ) → row_in l left ≡ row_or_none (as_row l) left
-row_in_lem (Read (Cast r)) left = refl
-row_in_lem (Read Start) left = refl
-row_in_lem (Read (Enter v)) left = refl
-row_in_lem (Read (Propose p)) left = refl
-row_in_lem (Read (Acknowledge a)) left = refl
-row_in_lem (Read (Ask q)) left = refl
-row_in_lem (Read (Confirm c)) left = refl
-row_in_lem Malformed left = refl
+row_in_lem : (l : Option Message) (left : ℕ) → row_in l left ≡ row_or_none (as_row l) left
+row_in_lem (Some (Cast r)) left = refl
+row_in_lem (Some Start) left = refl
+row_in_lem (Some (Enter v)) left = refl
+row_in_lem (Some (Propose p)) left = refl
+row_in_lem (Some (Acknowledge a)) left = refl
+row_in_lem (Some (Ask q)) left = refl
+row_in_lem (Some (Confirm c)) left = refl
+row_in_lem None left = refl
 
 -- Rows that came, and those still to come.
 abbrev joined : List Row → Option (List Row) → Option (List Row)
-joined rs none = none
-joined rs (some ts) = some (rs ++ ts)
+joined rs None = None
+joined rs (Some ts) = Some (rs ++ ts)
 
 joined_none : (x : Option (List Row)) → joined [] x ≡ x
-joined_none none = refl
-joined_none (some ts) = refl
+joined_none None = refl
+joined_none (Some ts) = refl
 
-joined_more : (rs : List Row) (r : Row) (x : Option (List Row)) → joined (rs ++ (r ∷ [])) x ≡ joined rs (before (some r) x)
-joined_more rs r none = refl
-joined_more rs r (some ts) = ap some (append_assoc rs (r ∷ []) ts)
+joined_more : (rs : List Row) (r : Row) (x : Option (List Row)) → joined (rs ++ (r ∷ [])) x ≡ joined rs (before (Some r) x)
+joined_more rs r None = refl
+joined_more rs r (Some ts) = ap Some (append_assoc rs (r ∷ []) ts)
 
 gathered_more : (t : Rows) (rs : List Row) (r : Row) → added (gathered t rs) r ≡ gathered t (rs ++ (r ∷ []))
 gathered_more t [] r = refl
@@ -125,13 +122,13 @@ record Agree (ls : List (List ℕ)) : Type 0 where
       ≡ steps_for s k (beside (Ask q) (joined rs (rows_at (suc j) ls)) ∷ happenings (suc j) ls)
   -- One that came was none.
   pub spoilt : (k : ℕ) (s : Replica) (j : ℕ) (q : Request) (rows : Rows)
-      → steps_in (at k (margin_of s) s (suc j) true q rows) ls ≡ steps_for s k (none ∷ happenings (suc j) ls)
+      → steps_in (at k (margin_of s) s (suc j) true q rows) ls ≡ steps_for s k (None ∷ happenings (suc j) ls)
 
 -- ---- the lines are used up
 
 -- Rows are awaited: "if one is missing .., the Q gets 19".
 missing : (k : ℕ) (s : Replica) (j : ℕ) (spoiled : Bool) (q : Request) (rows : Rows)
-    → steps_in (at k (margin_of s) s (suc j) spoiled q rows) [] ≡ steps_for s k (none ∷ [])
+    → steps_in (at k (margin_of s) s (suc j) spoiled q rows) [] ≡ steps_for s k (None ∷ [])
 missing k s j spoiled q rows =
     ap (λ (b : Bool). cond b (numbered (next_event k) (refused 19 s) (margin_of s) ∷ []) []) (lt-ltb 0 (suc j) (omega arith))
 
@@ -185,16 +182,16 @@ module _ (ls : List (List ℕ)) (agree : Agree ls) (k : ℕ) (s : Replica) where
   ask_due : (q : Request) (rs : List Row) (rows : Rows) → rows ≡ asked s q rs
       → numbered (next_event k) (ask_with s q rows) (margin_of s)
       ∷ steps_in (at (next_event k) (margin_of s) (ask_with s q rows).next 0 false q rows) ls
-      ≡ steps_for s k (some (Ask q, rs) ∷ happenings 0 ls)
+      ≡ steps_for s k (Some (Ask q, rs) ∷ happenings 0 ls)
   ask_due q rs rows e =
       let is : ask_with s q rows ≡ ask_step s q rs = ap (ask_with s q) e ∙ gathered_asked s q rs in
-      due (some (Ask q, rs)) (ask_with s q rows) (margin_of s) false q rows is
+      due (Some (Ask q, rs)) (ask_with s q rows) (margin_of s) false q rows is
       (sym (ask_margin s q rs) ∙ ap (λ (t : Step). margin_of t.next) (sym is))
 
   -- Behind a line that is no row.
   spoils : (left j : ℕ) (was : Bool) (q : Request) (rows : Rows)
-      → steps_from (at k (margin_of s) s left was q rows) (spoiled_row j) ls ≡ steps_for s k (none ∷ happenings j ls)
-  spoils left zero was q rows = due none (refused 19 s) (margin_of s) true q rows refl refl
+      → steps_from (at k (margin_of s) s left was q rows) (spoiled_row j) ls ≡ steps_for s k (None ∷ happenings j ls)
+  spoils left zero was q rows = due None (refused 19 s) (margin_of s) true q rows refl refl
   spoils left (suc j) was q rows = waits (at k (margin_of s) s left was q rows) Event.Unread j true ls ∙ agree.spoilt k s j q rows
 
   -- Behind a line that is a row of the Q, or is none.
@@ -202,9 +199,9 @@ module _ (ls : List (List ℕ)) (agree : Agree ls) (k : ℕ) (s : Replica) where
       → steps_from (at k (margin_of s) s left false q (asked s q rs)) (row_or_none x j) ls
       ≡ steps_for s k (beside (Ask q) (joined rs (before x (rows_at j ls))) ∷ happenings j ls)
   unfolding rows_at
-  rows_go_on left j q rs none = spoils left j false q (asked s q rs)
-  rows_go_on left zero q rs (some r) = ask_due q (rs ++ (r ∷ [])) (added (asked s q rs) r) (asked_more s q rs r)
-  rows_go_on left (suc j) q rs (some r) =
+  rows_go_on left j q rs None = spoils left j false q (asked s q rs)
+  rows_go_on left zero q rs (Some r) = ask_due q (rs ++ (r ∷ [])) (added (asked s q rs) r) (asked_more s q rs r)
+  rows_go_on left (suc j) q rs (Some r) =
       waits (at k (margin_of s) s left false q (asked s q rs)) (Event.Row r) j false ls
       ∙ ap (λ (t : Rows). steps_in (at k (margin_of s) s (suc j) false q t) ls) (asked_more s q rs r)
       ∙ agree.awaits k s j q (rs ++ (r ∷ []))
@@ -227,20 +224,20 @@ module _ (ls : List (List ℕ)) (agree : Agree ls) (k : ℕ) (s : Replica) where
         → steps_from (at k (margin_of s) s 0 was q rows) (heard_as m) ls ≡ steps_for s k (h ∷ happenings 0 ls)
     hears m h e = due h (heard s m) (margin_after (Event.Heard m) (heard s m) (margin_of s)) false q rows e (heard_margin s m)
 
-    event_line_lem : (l : Line)
+    event_line_lem : (l : Option Message)
         → steps_from (at k (margin_of s) s 0 was q rows) (sorted_line l) ls ≡ steps_for s k (happening l ls ∷ happenings (rows_used l) ls)
     unfolding sorted_line
-    event_line_lem (Read (Ask p)) = opens was q rows p p.count
-    event_line_lem (Read Start) = hears Start (some (Start, [])) refl
-    event_line_lem (Read (Enter v)) = hears (Enter v) (some (Enter v, [])) refl
-    event_line_lem (Read (Propose p)) = hears (Propose p) (some (Propose p, [])) refl
-    event_line_lem (Read (Acknowledge a)) = hears (Acknowledge a) (some (Acknowledge a, [])) refl
-    event_line_lem (Read (Cast r)) = hears (Cast r) (some (Cast r, [])) refl
-    event_line_lem (Read (Confirm c)) = hears (Confirm c) (some (Confirm c, [])) refl
-    event_line_lem Malformed = due none (refused 19 s) (margin_of s) false q rows refl refl
+    event_line_lem (Some (Ask p)) = opens was q rows p p.count
+    event_line_lem (Some Start) = hears Start (Some (Start, [])) refl
+    event_line_lem (Some (Enter v)) = hears (Enter v) (Some (Enter v, [])) refl
+    event_line_lem (Some (Propose p)) = hears (Propose p) (Some (Propose p, [])) refl
+    event_line_lem (Some (Acknowledge a)) = hears (Acknowledge a) (Some (Acknowledge a, [])) refl
+    event_line_lem (Some (Cast r)) = hears (Cast r) (Some (Cast r, [])) refl
+    event_line_lem (Some (Confirm c)) = hears (Confirm c) (Some (Confirm c, [])) refl
+    event_line_lem None = due None (refused 19 s) (margin_of s) false q rows refl refl
 
 -- A line where rows are awaited.
-row_sorted : (l : Line) (j : ℕ) (spoiled : Bool) → sorted l (suc j) spoiled ≡ sorted_row l j spoiled
+row_sorted : (l : Option Message) (j : ℕ) (spoiled : Bool) → sorted l (suc j) spoiled ≡ sorted_row l j spoiled
 unfolding sorted
 row_sorted l j spoiled =
     let less : suc j - 1 ≡ j = omega arith in

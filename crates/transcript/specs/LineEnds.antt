@@ -1,5 +1,5 @@
 -- Where a line ends in a text, as the code looks for it: `line_found` and `line_missing` in TextLaws.antt join it to the lines.
-use Rattle.std.specs.Prelude.{ℕ, zero, suc, ◌+◌, Bool, false, ◌||◌, cond, List, [], ◌∷◌, eqb, drop, get_or}
+use Rattle.std.specs.Prelude.{ℕ, zero, suc, ◌+◌, Bool, false, ◌||◌, cond, List, [], ◌∷◌, eqb, drop, get_or, Option, Some, None}
 use Rattle.text.specs.Fields.{lf}
 
 -- One of the k bytes from place p on is an LF.
@@ -7,11 +7,11 @@ unfoldable pub has_lf : List ℕ → ℕ → ℕ → Bool
 has_lf s p zero = false
 has_lf s p (suc k) = has_lf s p k || eqb (get_or s (p + k) 0) lf
 
--- The place behind the first LF of a text that begins at place p; 0 where it has none.
-abbrev pub place_after : List ℕ → ℕ → ℕ
-place_after [] p = 0
-place_after (b ∷ bs) p = cond (eqb b lf) (suc p) (place_after bs (suc p))
+-- The place behind the first LF of a text that begins at place p.
+abbrev pub place_after : List ℕ → ℕ → Option ℕ
+place_after [] p = None
+place_after (b ∷ bs) p = cond (eqb b lf) (Some (suc p)) (place_after bs (suc p))
 
 -- The same of what stands from place p on.
-unfoldable pub behind_line : List ℕ → ℕ → ℕ
+unfoldable pub behind_line : List ℕ → ℕ → Option ℕ
 behind_line s p = place_after (drop p s) p

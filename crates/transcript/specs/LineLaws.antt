@@ -1,9 +1,8 @@
 -- A text's lines: which is whole, and which is no message's line because it has no LF or is too long.
-use Rattle.std.specs.Prelude.{ℕ, suc, ◌≤◌, ◌<◌, ◌≡◌, refl, Bool, true, false, ◌||◌, cond, List, [], ◌∷◌, ◌++◌, eqb, length}
+use Rattle.std.specs.Prelude.{ℕ, suc, ◌≤◌, ◌<◌, ◌≡◌, refl, Bool, true, false, ◌||◌, cond, List, [], ◌∷◌, ◌++◌, eqb, length, None}
 use Rattle.std.proofs.Common.{sym, ap, ap₂, ◌∙◌, append_assoc, arith, eqb-true}
 use Rattle.base.specs.Tests.{true≢false, or_false, or_r}
 use Rattle.text.specs.Fields.{lf, line_end}
-use Rattle.messages.specs.declared.read.Line.TheVariants.{Malformed}
 use Rattle.messages.specs.Longest.{longest_read, longest_read_lem, line_ended}
 use Rattle.messages.specs.Reader.{read_line}
 use Rattle.messages.specs.RoundTrip.{reads_only}
@@ -148,10 +147,10 @@ ends_there [] = refl
 ends_there (b ∷ bs) = or_r (eqb b lf) (has_end (bs ++ line_end)) (ends_there bs)
 
 -- "a last line without LF too, is an event with 19"
-pub no_end : (l : List ℕ) → has_end l ≡ false → read_line l ≡ Malformed
+pub no_end : (l : List ℕ) → has_end l ≡ false → read_line l ≡ None
 no_end l n =
-    sym (reads_only l Malformed (λ m f e. let w = line_ended l m e in true≢false (sym (ends_there w.0) ∙ ap has_end (sym w.1) ∙ n)))
+    sym (reads_only l None (λ m f e. let w = line_ended l m e in true≢false (sym (ends_there w.0) ∙ ap has_end (sym w.1) ∙ n)))
 
 -- "The longest is 80 characters before the LF."
-pub too_long_lem : (l : List ℕ) → longest_read < length l → read_line l ≡ Malformed
-too_long_lem l h = sym (reads_only l Malformed (λ m f e. omega (arith, longest_read_lem l m e f)))
+pub too_long_lem : (l : List ℕ) → longest_read < length l → read_line l ≡ None
+too_long_lem l h = sym (reads_only l None (λ m f e. omega (arith, longest_read_lem l m e f)))

@@ -1,5 +1,5 @@
 -- Lines that come in pieces: what is fed of a piece, what is dropped of a line that is too long, and what is left at the end.
-use Rattle.std.specs.Prelude.{ℕ, zero, suc, ◌+◌, ◌-◌, ◌≤◌, ◌<◌, ◌≡◌, Bool, true, false, not, ◌&&◌, ◌||◌, cond, eqb, leb, ltb, drop}
+use Rattle.std.specs.Prelude.{ℕ, zero, suc, ◌+◌, ◌-◌, ◌≤◌, ◌<◌, ◌≡◌, Bool, true, false, not, ◌&&◌, ◌||◌, cond, eqb, leb, ltb, drop, None}
 use Rattle.std.proofs.Math.Path.{refl, ap}
 use Rattle.std.proofs.Common.{sym, subst, ◌∙◌, arith, length-append, ltb-true, le-leb, ne_eqb}
 use mathlib.Core.List.{List, [], ◌∷◌, ◌++◌, append_assoc, append-nil}
@@ -7,7 +7,6 @@ use Rattle.std.proofs.Math.Dec.{eqb-suc-zero}
 use Rattle.std.proofs.Math.ListN.{length}
 use Rattle.std.proofs.Math.Seq.{drop-append-add}
 use Rattle.base.specs.Tests.{true≢false, and_true, or_r}
-use Rattle.messages.specs.declared.read.Line.TheVariants.{Malformed}
 use Rattle.messages.specs.Longest.{longest_read}
 use Rattle.messages.specs.Reader.{read_line}
 use Rattle.transcript.specs.declared.State.{State}
@@ -20,7 +19,7 @@ use Rattle.transcript.specs.RestLaws.{rest, after, unread, unread_sorted, unread
 
 -- ---- the input is over
 
-unless_malformed : (c : Bool) (l : List ℕ) → read_line l ≡ Malformed → read_unless c l ≡ Malformed
+unless_malformed : (c : Bool) (l : List ℕ) → read_line l ≡ None → read_unless c l ≡ None
 unless_malformed true l e = refl
 unless_malformed false l e = e
 
@@ -41,7 +40,7 @@ ends st (b ∷ bs) n =
 abbrev pub too_long : State → List ℕ → Bool
 too_long st w = st.cut || ltb (longest_read) (length w)
 
-long_malformed : (c : Bool) (w l : List ℕ) → (c || ltb (longest_read) (length w)) ≡ true → read_unless c (w ++ l) ≡ Malformed
+long_malformed : (c : Bool) (w l : List ℕ) → (c || ltb (longest_read) (length w)) ≡ true → read_unless c (w ++ l) ≡ None
 long_malformed true w l h = refl
 long_malformed false w l h = too_long_lem (w ++ l) (omega (arith, length-append w l, ltb-true (longest_read) (length w) h))
 

@@ -1,16 +1,13 @@
 -- What is still printed where a trace stands between two lines: `rest`, and how a line goes into it.
-use Rattle.std.specs.Prelude.{ℕ, zero, suc, ◌-◌, ◌≡◌, refl, Bool, true, false, cond, List, [], ◌∷◌, ◌++◌, ltb, ℤ}
+use Rattle.std.specs.Prelude.{ℕ, zero, suc, ◌-◌, ◌≡◌, refl, Bool, true, false, cond, List, [], ◌∷◌, ◌++◌, ltb, ℤ, Option, None}
 use Rattle.std.proofs.Common.{ap, ◌∙◌, append-nil, arith, ltb-false, lt-ltb}
-use Rattle.messages.specs.declared.read.Line.{Line}
-use Rattle.messages.specs.declared.read.Line.TheVariants.{Malformed}
-use Rattle.replica.specs.declared.Decided.{Decided}
-use Rattle.replica.specs.declared.Sent.{Sent}
 use Rattle.transcript.specs.declared.State.{State}
 use Rattle.transcript.specs.declared.sort.Event.{Event}
 use Rattle.transcript.specs.declared.sort.Sorted.{Sorted}
 use Rattle.transcript.specs.Printed.{event_line, printed}
 use Rattle.transcript.specs.Feeding.{read_unless, sorted_as, sorted_row, sorted_line, sorted, margin_after, next_event}
 use Rattle.transcript.specs.Feeding.{waiting, step_in, stepped, state_by, text_by, state_after, text_of, last_text}
+use Rattle.messages.specs.declared.Message.{Message}
 
 -- What is still printed where a trace stands and these lines are to come.
 abbrev pub rest : State → List (List ℕ) → List ℕ
@@ -39,14 +36,14 @@ waits st e j spoiled ls =
 
 -- "an event with 19"
 abbrev pub unread : ℕ → ℤ → List ℕ
-unread k m = event_line k 19 Decided.Nothing m Sent.Nothing
+unread k m = event_line k 19 None m None
 
-pub unread_sorted : (left : ℕ) (spoiled : Bool) → sorted Malformed left spoiled ≡ sorted_as Event.Unread (left - 1) (ltb 0 left)
+pub unread_sorted : (left : ℕ) (spoiled : Bool) → sorted None left spoiled ≡ sorted_as Event.Unread (left - 1) (ltb 0 left)
 unfolding sorted sorted_row sorted_line
 unread_sorted left spoiled = go (ltb 0 left) refl spoiled
   where
     go : (b : Bool) → ltb 0 left ≡ b → (c : Bool)
-        → cond b (sorted_row Malformed (left - 1) c) (sorted_line Malformed) ≡ sorted_as Event.Unread (left - 1) b
+        → cond b (sorted_row None (left - 1) c) (sorted_line None) ≡ sorted_as Event.Unread (left - 1) b
     go true e true = refl
     go true e false = refl
     go false e c = let none : 0 ≡ left - 1 = omega (arith, ltb-false 0 left e) in ap (λ (j : ℕ). sorted_as Event.Unread j false) none
@@ -61,7 +58,7 @@ unread_last st (suc j) spoiled =
     ∙ ap (λ (b : Bool). cond b (unread (next_event st.events) st.margin) []) (lt-ltb 0 (suc j) (omega arith))
 
 -- A line that is none, or whose front was dropped.
-pub unread_line : (st : State) (l : List ℕ) (ls : List (List ℕ)) → read_unless st.cut l ≡ Malformed
-    → rest st (l ∷ ls) ≡ after st (sorted Malformed st.left st.spoiled) ls
+pub unread_line : (st : State) (l : List ℕ) (ls : List (List ℕ)) → read_unless st.cut l ≡ None
+    → rest st (l ∷ ls) ≡ after st (sorted None st.left st.spoiled) ls
 unfolding text_of state_after
-unread_line st l ls e = ap (λ (x : Line). after st (sorted x st.left st.spoiled) ls) e
+unread_line st l ls e = ap (λ (x : Option Message). after st (sorted x st.left st.spoiled) ls) e

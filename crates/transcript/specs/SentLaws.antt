@@ -1,7 +1,6 @@
 -- Every message that a step sends can be written, and the rows behind a Q are at most 64.
-use Rattle.std.specs.Prelude.{ℕ, ◌≤◌, ◌<◌, ◌≡◌, refl, Bool, true, false, not, ◌&&◌, cond, [], ◌∷◌, ◌++◌, eqb, leb}
+use Rattle.std.specs.Prelude.{ℕ, ◌≤◌, ◌<◌, ◌≡◌, refl, Bool, true, false, not, ◌&&◌, cond, [], ◌∷◌, ◌++◌, eqb, leb, Option, Some, None}
 use Rattle.std.proofs.Common.{sym, ap₂, ◌∙◌, arith, eqb-true, le-leb}
-use Rattle.std.proofs.Math.Option.{none, some}
 use Rattle.base.specs.Refusal.{Refusals}
 use Rattle.base.specs.RefusalLaws.{front_none}
 use Rattle.base.specs.Tests.{true≢false}
@@ -21,9 +20,7 @@ use Rattle.messages.specs.declared.Message.TheVariants.{Start, Enter, Propose, A
 use Rattle.messages.specs.declared.Request.{Request}
 use Rattle.messages.specs.Lines.{top_seat, top_count}
 use Rattle.messages.specs.Writer.{writable}
-use Rattle.replica.specs.declared.Decided.{Decided}
 use Rattle.replica.specs.declared.Replica.{Replica}
-use Rattle.replica.specs.declared.Sent.{Sent}
 use Rattle.replica.specs.declared.Step.{Step}
 use Rattle.replica.specs.Refusals.{proposed}
 use Rattle.replica.specs.Replica.{number_for, with_stage, with_decision}
@@ -57,11 +54,11 @@ record Sendable (t : Step) : Type 0 where
   -- The rows behind a Q are those of the replica handed back.
   pub rows : sends_ask t.sent ≡ true → t.next.n ≤ top_count
 
-silent : (number : ℕ) (s : Replica) (d : Decided) → Sendable (step_of number s d Sent.Nothing)
+silent : (number : ℕ) (s : Replica) (d : Option Entry) → Sendable (step_of number s d None)
 silent number s d = record { line = tt; rows = λ e. true≢false (sym e) }
 
 -- A message other than a Q.
-spoken : (s : Replica) (m : Message) → sends_ask (Sent.Message m) ≡ false → writable m ≡ true → Sendable (saying s m)
+spoken : (s : Replica) (m : Message) → sends_ask (Some m) ≡ false → writable m ≡ true → Sendable (saying s m)
 spoken s m other can = record { line = can; rows = λ e. true≢false (sym e ∙ other) }
 
 either : (b : Bool) (x y : Step) → Sendable x → Sendable y → Sendable (cond b x y)
@@ -75,14 +72,14 @@ answered_sendable s rs taken h = go (eqb (number_for s rs) 0) refl
   where
     go : (b : Bool) → eqb (number_for s rs) 0 ≡ b → Sendable (cond b taken (refused (number_for s rs) s))
     go true e = h (small s rs (eqb-true (number_for s rs) 0 e))
-    go false e = silent (number_for s rs) s Decided.Nothing
+    go false e = silent (number_for s rs) s None
 
 -- ---- the events that choose what to send
 
 acknowledged_sendable : (s : Replica) (a : Assent) → Sendable (acknowledged s a)
 unfolding acknowledged
 acknowledged_sendable s a =
-    either (decides s a) _ _ (silent 0 (with_decision s a.entry) (Decided.Now a.entry)) (silent 0 s Decided.Nothing)
+    either (decides s a) _ _ (silent 0 (with_decision s a.entry) (Some a.entry)) (silent 0 s None)
 
 -- A Q counts the seats that voted, so no more than there are.
 asks_sendable : (s : Replica) (e : Entry) → Small s → Sendable (asks s e)
@@ -93,7 +90,7 @@ asks_sendable s e h = record {
 }
 
 chooses_sendable : (s : Replica) (c : Choice) → Small s → Sendable (chooses s c)
-chooses_sendable s Choice.Wait h = silent 0 s Decided.Nothing
+chooses_sendable s Choice.Wait h = silent 0 s None
 chooses_sendable s Choice.Free h = asks_sendable s s.own h
 chooses_sendable s (Choice.Forced e) h = asks_sendable s e h
 
@@ -102,7 +99,7 @@ unfolding certified writable
 confirmed_sendable s h =
     either (leb (signers s.f) (count (bit s.confirmed) s.n)) _ _
     (spoken (with_stage s proposed) (proposal_of s s.view s.chosen (confirmers s)) refl h.0)
-    (silent 0 s Decided.Nothing)
+    (silent 0 s None)
 
 -- ---- every event
 heard_sendable : (s : Replica) (m : Message) → Sendable (heard s m)
@@ -112,7 +109,7 @@ heard_sendable s (Enter v) = answered_sendable s _ _ (λ h. spoken _ _ refl h.0)
 heard_sendable s (Propose p) = answered_sendable s _ _ (λ h. spoken _ _ refl h.0)
 heard_sendable s (Acknowledge a) = answered_sendable s _ _ (λ h. acknowledged_sendable (rowed s a) a)
 heard_sendable s (Cast r) = answered_sendable s _ _ (λ h. chooses_sendable (filled_by s r) (selection_of (filled_by s r)) h)
-heard_sendable s (Ask q) = silent 19 s Decided.Nothing
+heard_sendable s (Ask q) = silent 19 s None
 heard_sendable s (Confirm c) = answered_sendable s _ _ (λ h. confirmed_sendable (confirmed_by s c) h)
 
 -- A Q that is taken, whatever its rows may be refused for.
@@ -122,21 +119,21 @@ confirming_sendable s rs q = answered_sendable s rs (confirming s q) (λ h. spok
 
 event_sendable : (e : Event) (s : Replica) (q : Request) (rows : Rows) → Sendable (step_after e s q rows)
 unfolding ask_with
-event_sendable Event.Unread s q rows = silent 19 s Decided.Nothing
+event_sendable Event.Unread s q rows = silent 19 s None
 event_sendable (Event.Heard m) s q rows = heard_sendable s m
 event_sendable (Event.Row r) s q rows = confirming_sendable s _ q
 event_sendable (Event.Opened p) s q rows = confirming_sendable s _ q
 
 happening_sendable : (s : Replica) (h : Happening) → Sendable (step_for s h)
 unfolding ask_step
-happening_sendable s none = silent 19 s Decided.Nothing
-happening_sendable s (some (Start, rows)) = heard_sendable s Start
-happening_sendable s (some (Enter v, rows)) = heard_sendable s (Enter v)
-happening_sendable s (some (Propose p, rows)) = heard_sendable s (Propose p)
-happening_sendable s (some (Acknowledge a, rows)) = heard_sendable s (Acknowledge a)
-happening_sendable s (some (Cast r, rows)) = heard_sendable s (Cast r)
-happening_sendable s (some (Ask q, rows)) = confirming_sendable s _ q
-happening_sendable s (some (Confirm c, rows)) = heard_sendable s (Confirm c)
+happening_sendable s None = silent 19 s None
+happening_sendable s (Some (Start, rows)) = heard_sendable s Start
+happening_sendable s (Some (Enter v, rows)) = heard_sendable s (Enter v)
+happening_sendable s (Some (Propose p, rows)) = heard_sendable s (Propose p)
+happening_sendable s (Some (Acknowledge a, rows)) = heard_sendable s (Acknowledge a)
+happening_sendable s (Some (Cast r, rows)) = heard_sendable s (Cast r)
+happening_sendable s (Some (Ask q, rows)) = confirming_sendable s _ q
+happening_sendable s (Some (Confirm c, rows)) = heard_sendable s (Confirm c)
 
 -- ---- what the printer cites
 

@@ -1,5 +1,5 @@
 -- The lines of a text, one after the other, and where the code finds them.
-use Rattle.std.specs.Prelude.{ℕ, zero, suc, ◌+◌, ◌-◌, ◌≤◌, ◌<◌, ◌≡◌, refl, Bool, true, false, eqb, length, drop, take, get_or}
+use Rattle.std.specs.Prelude.{ℕ, zero, suc, ◌+◌, ◌-◌, ◌≤◌, ◌<◌, ◌≡◌, refl, Bool, true, false, eqb, length, drop, take, get_or, Some, None}
 use Rattle.std.proofs.Common.{sym, ◌∙◌, arith, add-one, add-zero, length-take, length-drop, drop_of_length-le, drop-cons, drop-drop, eq-eqb, ne_eqb}
 use Rattle.std.proofs.Math.Path.{ap}
 use Rattle.std.proofs.Math.Bool.{cond}
@@ -13,14 +13,14 @@ use Rattle.transcript.specs.Feeding.{whole}
 
 -- ---- looking for an LF, byte by byte
 module _ (s : List ℕ) (p : ℕ) where
-  from_byte : p < length s → behind_line s p ≡ cond (eqb (get_or s p 0) lf) (p + 1) (behind_line s (p + 1))
+  from_byte : p < length s → behind_line s p ≡ cond (eqb (get_or s p 0) lf) (Some (p + 1)) (behind_line s (p + 1))
   unfolding behind_line
   from_byte h =
       ap (λ (t : List ℕ). place_after t p) (drop-cons s p 0 h)
-      ∙ ap (λ (q : ℕ). cond (eqb (get_or s p 0) lf) q (place_after (drop q s) q)) (sym (add-one p))
+      ∙ ap (λ (q : ℕ). cond (eqb (get_or s p 0) lf) (Some q) (place_after (drop q s) q)) (sym (add-one p))
 
   -- An LF ends the line.
-  pub line_ends : p < length s → get_or s p 0 ≡ lf → p + 1 ≡ behind_line s p
+  pub line_ends : p < length s → get_or s p 0 ≡ lf → Some (p + 1) ≡ behind_line s p
   line_ends h e = sym (from_byte h ∙ simp (eq-eqb (get_or s p 0) lf e))
 
   -- It goes on past any other byte.
@@ -28,7 +28,7 @@ module _ (s : List ℕ) (p : ℕ) where
   line_goes h ne = sym (from_byte h ∙ simp (ne_eqb (get_or s p 0) lf ne))
 
   -- The text is over.
-  pub line_over : length s ≤ p → 0 ≡ behind_line s p
+  pub line_over : length s ≤ p → None ≡ behind_line s p
   unfolding behind_line
   line_over h = ap (λ (t : List ℕ). place_after t p) (sym (drop_of_length-le s h))
 
@@ -74,18 +74,19 @@ record First (t : List ℕ) (p e : ℕ) : Type 0 where
   pub lines : lines_of t ≡ take (e - p) t ∷ lines_of (drop (e - p) t)
   pub ends : whole (take (e - p) t) ≡ true
 
-first_line : (t : List ℕ) (p e : ℕ) → e ≡ place_after t p → 0 < e → First t p e
+first_line : (t : List ℕ) (p e : ℕ) → Some e ≡ place_after t p → First t p e
 unfolding lines_of
-first_line [] p e is h = absurd (omega arith)
-first_line (b ∷ bs) p e is h = go (eqb b lf) refl (first_line bs (suc p) e)
+first_line [] p e is = absurd (let no : ⊥ = cc in no)
+first_line (b ∷ bs) p e is = go (eqb b lf) refl (first_line bs (suc p) e)
   where
     -- The line so far, and what stands behind it.
     split : ℕ → List (List ℕ)
     split k = take k (b ∷ bs) ∷ lines_of (drop k (b ∷ bs))
 
-    go : (t : Bool) → eqb b lf ≡ t → (e ≡ place_after bs (suc p) → 0 < e → First bs (suc p) e) → First (b ∷ bs) p e
+    go : (t : Bool) → eqb b lf ≡ t → (Some e ≡ place_after bs (suc p) → First bs (suc p) e) → First (b ∷ bs) p e
     go true q ih =
-        let is : e ≡ suc p = is ∙ simp q in
+        let at : Some e ≡ Some (suc p) = is ∙ simp q in
+        let is : e ≡ suc p = cc in
         let one : e - p ≡ 1 = omega arith in
         record {
           some = omega arith;
@@ -94,7 +95,7 @@ first_line (b ∷ bs) p e is h = go (eqb b lf) refl (first_line bs (suc p) e)
           ends = ap (λ (k : ℕ). whole (take k (b ∷ bs))) one ∙ q;
         }
     go false q ih =
-        let f = ih (is ∙ simp q) h in
+        let f = ih (is ∙ simp q) in
         let more : e - p ≡ suc (e - suc p) = omega (arith, f.some) in
         record {
           some = omega (arith, f.some);
@@ -103,7 +104,7 @@ first_line (b ∷ bs) p e is h = go (eqb b lf) refl (first_line bs (suc p) e)
           ends = ap (λ (k : ℕ). whole (take k (b ∷ bs))) more ∙ whole_more b (take (e - suc p) bs) f.ends;
         }
 
-no_line : (t : List ℕ) (p : ℕ) → place_after t p ≡ 0 → NoLine t
+no_line : (t : List ℕ) (p : ℕ) → place_after t p ≡ None → NoLine t
 unfolding lines_of
 no_line [] p is = record { lines = refl; ends = refl }
 no_line (b ∷ bs) p is = go (eqb b lf) refl (no_line bs (suc p))
@@ -116,17 +117,17 @@ no_line (b ∷ bs) p is = go (eqb b lf) refl (no_line bs (suc p))
     unended [] q h = q
     unended (c ∷ cs) q h = h
 
-    go : (t : Bool) → eqb b lf ≡ t → (place_after bs (suc p) ≡ 0 → NoLine bs) → NoLine (b ∷ bs)
-    go true q ih = let z : suc p ≡ 0 = sym (simp q) ∙ is in absurd (omega arith)
+    go : (t : Bool) → eqb b lf ≡ t → (place_after bs (suc p) ≡ None → NoLine bs) → NoLine (b ∷ bs)
+    go true q ih = let z : Some (suc p) ≡ None = sym (simp q) ∙ is in absurd (let no : ⊥ = cc in no)
     go false q ih =
         let f = ih (sym (simp q) ∙ is) in
         record { lines = simp q (ap (onto b) f.lines ∙ alone bs); ends = unended bs q f.ends }
 
 -- Where the code finds an LF it has the first line.
-pub line_found : (s : List ℕ) (p e : ℕ) → e ≡ behind_line s p → 0 < e → p ≤ length s → LineAt s p e
+pub line_found : (s : List ℕ) (p e : ℕ) → Some e ≡ behind_line s p → p ≤ length s → LineAt s p e
 unfolding behind_line
-line_found s p e is h le =
-    let f = first_line (drop p s) p e is h in
+line_found s p e is le =
+    let f = first_line (drop p s) p e is in
     let end : p + (e - p) ≡ e = omega (arith, f.some) in
     let rest : drop (e - p) (drop p s) ≡ drop e s = drop-drop (e - p) p s ∙ ap (λ (k : ℕ). drop k s) end in
     record {
@@ -138,6 +139,6 @@ line_found s p e is h le =
     }
 
 -- Where it finds none there is none.
-pub line_missing : (s : List ℕ) (p : ℕ) → behind_line s p ≡ 0 → NoLine (drop p s)
+pub line_missing : (s : List ℕ) (p : ℕ) → behind_line s p ≡ None → NoLine (drop p s)
 unfolding behind_line
 line_missing s p is = no_line (drop p s) p is

@@ -1,12 +1,8 @@
 -- 01, "The program trace": from the whole input to the whole output.
-use Rattle.std.specs.Prelude.{ℕ, suc, cond, List, [], ◌∷◌, ◌++◌, eqb}
-use Rattle.std.proofs.Math.Option.{none, some}
+use Rattle.std.specs.Prelude.{ℕ, suc, cond, List, [], ◌∷◌, ◌++◌, eqb, Option, Some, None, unwrap_or}
 use Rattle.text.specs.Digits.{decimal}
 use Rattle.text.specs.Fields.{line_end}
 use Rattle.messages.specs.declared.setup.Setup.{Setup}
-use Rattle.messages.specs.declared.setup.Opening.{Opening}
-use Rattle.messages.specs.declared.setup.Opening.TheVariants.{Read, Malformed}
-use Rattle.messages.specs.declared.read.Line.{Line}
 use Rattle.messages.specs.Lines.{line_number}
 use Rattle.messages.specs.Setup.{read_setup, opening_number}
 use Rattle.replica.specs.declared.Replica.{Replica}
@@ -19,8 +15,8 @@ use Rattle.transcript.specs.Printed.{told, printed}
 
 -- "Any other malformed line .. is an event with 19."
 abbrev pub step_for : Replica → Happening → Step
-step_for s none = refused (line_number Line.Malformed) s
-step_for s (some x) = step s x.0 x.1
+step_for s None = refused (line_number None) s
+step_for s (Some x) = step s x.0 x.1
 
 -- Event after event, the first of them number k.
 unfoldable pub told_of : Replica → ℕ → List Happening → List ℕ
@@ -36,7 +32,7 @@ replica_after s (h ∷ hs) = replica_after (step_for s h).next hs
 
 -- "f may be `-`, meaning 1"
 abbrev pub faulty_of : Setup → ℕ
-faulty_of h = cond h.dash 1 h.f
+faulty_of h = unwrap_or h.f 1
 
 abbrev pub setup_of : Setup → Step
 setup_of h = setup_step h.n (faulty_of h) h.seat h.entry
@@ -49,12 +45,12 @@ abbrev pub begun : Step → List (List ℕ) → List ℕ
 begun t ls = cond (eqb t.number 0) (told_of t.next 1 (happenings 0 ls)) (bad_setup t.number)
 
 -- "the number is 19 for a malformed or missing H, else setup's"
-abbrev pub opened : Opening → List (List ℕ) → List ℕ
-opened Malformed ls = bad_setup (opening_number Malformed)
-opened (Read h) ls = begun (setup_of h) ls
+abbrev pub opened : Option Setup → List (List ℕ) → List ℕ
+opened None ls = bad_setup (opening_number None)
+opened (Some h) ls = begun (setup_of h) ls
 
 abbrev pub output : List (List ℕ) → List ℕ
-output [] = bad_setup (opening_number Malformed)
+output [] = bad_setup (opening_number None)
 output (l ∷ ls) = opened (read_setup l) ls
 
 unfoldable pub transcript : List ℕ → List ℕ

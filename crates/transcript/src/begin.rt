@@ -2,22 +2,23 @@
 ghost use Rattle.std.specs.Prelude.{◌≡◌, length};
 ghost use Rattle.messages.specs.Writer.{lent};
 ghost use Rattle.transcript.specs.Transcript.{bad_setup};
-ghost use Rattle.transcript.specs.Feeding.{no_request, setup_said, was_read, resumed, begun_by, within};
+ghost use Rattle.transcript.specs.Feeding.{no_request, setup_said, resumed, begun_by, within};
 
 use crate::State;
 use crate::print::ROOM;
+use base::refusal::number_of;
 use entry::zero;
-use messages::setup::{Opening, Setup, read_setup};
+use messages::setup::{Setup, read_setup};
 use messages::{Head, Request};
 use replica::Replica;
 use replica::events::margin_of;
-use replica::numbers::setup_number;
+use replica::refusals::check_setup;
 use seats::{Seat, View};
 use text::put::{put_byte, put_decimal};
 use text::{LF, TAB};
 use votes::Rows;
 
-// 19 or setup's number, and where the trace then stands.
+// 19 or setup's number, as it is printed (`bad_setup`), and where the trace then stands: of a refused setup too, so no Result.
 #[derive(Clone, Copy)]
 pub struct Begun {
     pub number: u8,
@@ -39,41 +40,25 @@ fn no_request() -> Request
 }
 
 // What H says; zeros, which setup refuses, where it is none.
-fn setup_said(o: Opening) -> Setup
-    ensures { result ≡ setup_said o }
+fn setup_said(read: Option<Setup>) -> Setup
+    ensures { result ≡ setup_said read }
 {
-    match o {
-        Opening::Malformed => Setup {
-            n: 0,
-            f: 0,
-            dash: false,
-            seat: Seat(0),
-            entry: zero(),
-        },
-        Opening::Read(h) => h,
-    }
-}
-
-fn was_read(o: Opening) -> bool
-    ensures { result ≡ was_read o }
-{
-    match o {
-        Opening::Malformed => false,
-        Opening::Read(h) => true,
-    }
+    read.unwrap_or(Setup {
+        n: 0,
+        f: Some(0),
+        seat: Seat(0),
+        entry: zero(),
+    })
 }
 
 // Where a trace stands that begins with a replica as it is.
 pub fn resume(s: Replica) -> State
     ensures { result ≡ resumed s }
 {
-    let acks = s.acks;
-    let seat = s.seat;
-    let own = s.own;
-    let setup = setup_number(s.n, s.f, seat, own);
+    let setup = number_of(check_setup(s.n, s.f, s.seat, s.own));
     State {
         events: 0,
-        margin: margin_of(setup, &acks.entries, &acks.views, s.n, s.f),
+        margin: margin_of(setup, &s.acks, s.n, s.f),
         left: 0,
         spoiled: false,
         cut: false,
@@ -87,19 +72,16 @@ pub fn resume(s: Replica) -> State
 pub fn begin(line: &[u8]) -> Begun
     ensures { result ≡ begun_by line.now }
 {
-    let o = read_setup(line);
-    let h = setup_said(o);
-    let seat = h.seat;
-    let own = h.entry;
-    let t = Replica::setup_step(h.n, base::pick(h.dash, 1, h.f), seat, own);
-    let next = t.next;
+    let read = read_setup(line);
+    let h = setup_said(read);
+    let t = Replica::setup_step(h.n, h.f.unwrap_or(1), h.seat, h.entry);
     Begun {
-        number: base::pick(was_read(o), t.number, 19),
-        state: resume(next),
+        number: if read.is_some() { t.number } else { 19 },
+        state: resume(t.next),
     }
 }
 
-// What a bad H prints.
+// What a bad H prints: any number, as the contract says, and so no Refusal.
 pub fn put_refusal(out: &mut [u8], number: u8) -> usize
     ensures { (result ≡ length (within (length out.old) (bad_setup number))) × (out.new ≡ lent out.old (within (length out.old) (bad_setup number))) }
 {

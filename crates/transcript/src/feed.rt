@@ -10,7 +10,6 @@ use crate::print::{ROOM, asks, put_event, put_rows};
 use crate::sort::{Event, read_unless, sort};
 use messages::Message;
 use replica::events::margin_of;
-use replica::{Decided, Sent};
 use votes::Rows;
 
 // How much of the input was used, how much output was put, and where the trace then stands.
@@ -21,16 +20,15 @@ pub struct Fed {
     pub state: State,
 }
 
-const LAST: u64 = 0xffffffffffffffff;
-
 pub(crate) fn next_event(k: u64) -> u64
     ensures { result ≡ next_event k }
 {
-    if k < LAST { k + 1 } else { k }
+    k.saturating_add(1)
 }
 
 // As many whole lines as there are, while an event has room in `out`. Each event is an arm of its own that stores the next
-// replica: then no arm copies a table that it does not change.
+// replica: then no arm copies a table that it does not change. For the same reason a state is taken apart and put together again, and what
+// is answered is four values, each set where it is made. 19 is `Refusal::Line`.
 pub fn feed(state: State, s: &[u8], out: &mut [u8]) -> Fed
     ensures { (result ≡ fed_of (ran state (lines_of s.now) (length out.old))) × (out.new ≡ lent out.old (ran state (lines_of s.now) (length out.old)).text) }
 {
@@ -45,10 +43,9 @@ pub fn feed(state: State, s: &[u8], out: &mut [u8]) -> Fed
     let mut at: usize = 0;
     let mut put: usize = 0;
     while put + ROOM <= out.len() {
-        let end = behind_line(s, at);
-        if end == 0 {
+        let Some(end) = behind_line(s, at) else {
             break;
-        }
+        };
         let line = read_unless(cut, &s[at..end]);
         let sorted = sort(line, left, spoiled);
         let event = sorted.event;
@@ -61,10 +58,8 @@ pub fn feed(state: State, s: &[u8], out: &mut [u8]) -> Fed
                 rows = rows.add(row);
             }
             Event::Opened(q) => {
-                let h = q.head;
-                let v = h.view;
                 request = q;
-                rows = Rows::none(replica.n, replica.f, v);
+                rows = Rows::none(replica.n, replica.f, q.head.view);
             }
             _ => {}
         }
@@ -72,67 +67,49 @@ pub fn feed(state: State, s: &[u8], out: &mut [u8]) -> Fed
             continue;
         }
         let mut number: u8 = 19;
-        let mut decided = Decided::Nothing;
-        let mut sent = Sent::Nothing;
+        let mut decided = None;
+        let mut sent = None;
         match event {
             Event::Unread => {}
             Event::Heard(m) => match m {
                 Message::Acknowledge(a) => {
                     let t = replica.acknowledge_step(a);
-                    let next = t.next;
-                    let d = t.decided;
-                    replica = next;
+                    replica = t.next;
                     number = t.number;
-                    decided = d;
+                    decided = t.decided;
                     if number == 0 {
-                        margin = margin_of(
-                            0,
-                            &replica.acks.entries,
-                            &replica.acks.views,
-                            replica.n,
-                            replica.f,
-                        );
+                        margin = margin_of(0, &replica.acks, replica.n, replica.f);
                     }
                 }
                 Message::Cast(r) => {
                     let t = replica.cast_step(r);
-                    let next = t.next;
-                    let x = t.sent;
-                    replica = next;
+                    replica = t.next;
                     number = t.number;
-                    sent = x;
+                    sent = t.sent;
                 }
                 Message::Propose(p) => {
                     let t = replica.propose_step(p);
-                    let next = t.next;
-                    let x = t.sent;
-                    replica = next;
+                    replica = t.next;
                     number = t.number;
-                    sent = x;
+                    sent = t.sent;
                 }
                 Message::Confirm(c) => {
                     let t = replica.confirm_step(c);
-                    let next = t.next;
-                    let x = t.sent;
-                    replica = next;
+                    replica = t.next;
                     number = t.number;
-                    sent = x;
+                    sent = t.sent;
                 }
                 Message::Enter(v) => {
                     let t = replica.enter_step(v);
-                    let next = t.next;
-                    let x = t.sent;
-                    replica = next;
+                    replica = t.next;
                     number = t.number;
-                    sent = x;
+                    sent = t.sent;
                 }
                 Message::Start => {
                     let t = replica.start_step();
-                    let next = t.next;
-                    let x = t.sent;
-                    replica = next;
+                    replica = t.next;
                     number = t.number;
-                    sent = x;
+                    sent = t.sent;
                 }
                 // Sorted as `Opened`: never here.
                 Message::Ask(_) => {}
@@ -140,37 +117,29 @@ pub fn feed(state: State, s: &[u8], out: &mut [u8]) -> Fed
             // The last row of a request, or a request with none: its rows are all there.
             _ => {
                 let t = replica.ask_step(request, rows);
-                let next = t.next;
-                let x = t.sent;
-                replica = next;
+                replica = t.next;
                 number = t.number;
-                sent = x;
+                sent = t.sent;
             }
         }
         events = next_event(events);
         put = put_event(out, put, events, number, decided, margin, sent);
         if asks(sent) {
-            let v = replica.votes;
-            let t = v.votes;
-            let view = replica.view;
-            put = put_rows(
-                out, put, v.filled, t.cast, t.verified, &t.entries, &t.masks, &t.views, replica.n,
-                replica.f, view,
-            );
+            put = put_rows(out, put, &replica.votes, replica.n, replica.f, replica.view);
         }
     }
     Fed {
         used: at,
-        put: put,
+        put,
         state: State {
-            events: events,
-            margin: margin,
-            left: left,
-            spoiled: spoiled,
-            cut: cut,
-            request: request,
-            replica: replica,
-            rows: rows,
+            events,
+            margin,
+            left,
+            spoiled,
+            cut,
+            request,
+            replica,
+            rows,
         },
     }
 }

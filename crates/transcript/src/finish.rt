@@ -6,7 +6,6 @@ ghost use Rattle.transcript.specs.Feeding.{cut_state, last_text, within};
 use crate::State;
 use crate::feed::next_event;
 use crate::print::{ROOM, put_event};
-use replica::{Decided, Sent};
 
 impl State {
     // The front of a line that is longer than any is dropped.
@@ -33,8 +32,8 @@ pub fn finish(state: State, more: bool, out: &mut [u8]) -> usize
         0,
         next_event(state.events),
         19,
-        Decided::Nothing,
+        None,
         state.margin,
-        Sent::Nothing,
+        None,
     )
 }

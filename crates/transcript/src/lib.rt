@@ -21,7 +21,7 @@ pub struct State {
     events: u64,
     // The margin of the replica, counted again only where its rows changed.
     margin: i32,
-    // Rows of the request that are still to come; whether one that came was none.
+    // Rows of the request that are still to come; whether one that came was none. No Option of a request: its rows would be moved with it.
     left: u8,
     spoiled: bool,
     // The front of the line that is being read was dropped: it is too long to be any.

@@ -12,11 +12,9 @@ fn block_has(s: &[u8], at: usize) -> bool
     requires { at + 16 ≤ length s.now }
     ensures { result ≡ has_lf s.now at 16 }
 {
-    let mut i: usize = 0;
     let mut hit = false;
-    while i < BLOCK {
-        hit = hit | (s[at + i] == LF);
-        i += 1;
+    for i in 0..BLOCK {
+        hit |= s[at + i] == LF;
     }
     hit
 }
@@ -24,41 +22,33 @@ fn block_has(s: &[u8], at: usize) -> bool
 // Past the blocks without an LF.
 fn skip_blocks(s: &[u8], from: usize) -> usize
     requires { from ≤ length s.now }
-    ensures { behind_line s.now result ≡ behind_line s.now from }
+    ensures { (behind_line s.now result ≡ behind_line s.now from) × (result ≤ length s.now) }
 {
     let n = s.len();
-    let mut i = from;
-    while i + BLOCK <= n {
-        if block_has(s, i) {
-            break;
+    for i in (from..n).step_by(BLOCK) {
+        if n - i < BLOCK || block_has(s, i) {
+            return i;
         }
-        i += BLOCK;
     }
-    i
+    n
 }
 
-// The place behind the first LF from `from` on; 0 where there is none.
-pub(crate) fn behind_line(s: &[u8], from: usize) -> usize
+// The place behind the first LF from `from` on.
+pub(crate) fn behind_line(s: &[u8], from: usize) -> Option<usize>
     requires { from ≤ length s.now }
     ensures { result ≡ behind_line s.now from }
 {
-    let n = s.len();
-    let mut i = skip_blocks(s, from);
-    while i < n {
-        if s[i] == LF {
-            return i + 1;
-        }
-        i += 1;
-    }
-    0
+    let near = skip_blocks(s, from);
+    let k = s[near..].iter().position(|b| *b == LF)?;
+    Some(near + k + 1)
 }
 
 // The same from any place on.
-pub fn end_of_line(s: &[u8], from: usize) -> usize
+pub fn end_of_line(s: &[u8], from: usize) -> Option<usize>
     ensures { result ≡ behind_line s.now from }
 {
     if s.len() < from {
-        return 0;
+        return None;
     }
     behind_line(s, from)
 }

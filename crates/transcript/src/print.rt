@@ -3,30 +3,29 @@ ghost use Rattle.std.specs.Prelude.{◌≡◌, true, [], ◌∷◌, ◌++◌, �
 ghost use Rattle.text.specs.Digits.{decimal};
 ghost use Rattle.text.specs.Fields.{tab};
 ghost use Rattle.text.specs.Put.{Puts};
-ghost use Rattle.votes.specs.Rows.{votes_of, table_of};
 ghost use Rattle.votes.specs.Request.{row_list, rows_sent};
 ghost use Rattle.messages.specs.Lines.{line};
 ghost use Rattle.messages.specs.Writer.{writable};
 ghost use Rattle.transcript.specs.Printed.{decided_text, signed, sent_text, row_lines, event_line, SentWritable, RowWritable, sends_ask};
 ghost use Rattle.transcript.specs.Rooms.{decided_room, line_room, event_line_room, rows_room};
 
+use entry::Entry;
 use entry::hex::{DIGITS, put_text};
-use entry::table::Entries;
 use messages::Message;
 use messages::write::write_line;
-use replica::{Decided, Sent};
 use seats::{Seat, View, mask};
 use text::put::{put_byte, put_decimal};
 use text::{LF, TAB};
-use votes::SeatRow;
-use votes::request::request_row;
+use votes::{Row, VoteRows};
 
+// A field of the output that has nothing; a line's dash is a mark and stands in messages.
 const DASH: u8 = b'-';
 
 // What one event prints at most: its line, and 64 rows.
 pub(crate) const ROOM: usize = 6000;
 
-// Each of these puts a field and a tab, and answers the place behind them.
+// Each of these puts a field and a tab, and answers the place behind them. The place goes by value: a cursor would have to promise where it
+// then stands, which is what the answer says.
 fn put_number(s: &mut [u8], at: usize, v: u64) -> usize
     requires { at + 21 ≤ length s.old }
     ensures { (Puts s.old at (decimal v ++ (tab ∷ [])) result s.new) × (result ≤ at + 21) }
@@ -36,17 +35,17 @@ fn put_number(s: &mut [u8], at: usize, v: u64) -> usize
     at + k + 1
 }
 
-fn put_decided(s: &mut [u8], at: usize, d: Decided) -> usize
+fn put_decided(s: &mut [u8], at: usize, d: Option<Entry>) -> usize
     requires { at + decided_room ≤ length s.old }
     ensures { (Puts s.old at (decided_text d ++ (tab ∷ [])) result s.new) × (result ≤ at + decided_room) }
 {
     match d {
-        Decided::Nothing => {
+        None => {
             put_byte(s, at, DASH);
             put_byte(s, at + 1, TAB);
             at + 2
         }
-        Decided::Now(e) => {
+        Some(e) => {
             put_text(s, at, e);
             put_byte(s, at + DIGITS, TAB);
             at + DIGITS + 1
@@ -60,7 +59,7 @@ fn put_signed(s: &mut [u8], at: usize, m: i32) -> usize
 {
     if m < 0 {
         put_byte(s, at, DASH);
-        return put_number(s, at + 1, (0 - (m as i64)) as u64);
+        return put_number(s, at + 1, u64::from(m.unsigned_abs()));
     }
     put_number(s, at, m as u64)
 }
@@ -69,32 +68,32 @@ fn put_message(s: &mut [u8], at: usize, m: Message) -> usize
     requires { (writable m ≡ true) × (at + line_room ≤ length s.old) }
     ensures { (Puts s.old at (line m) result s.new) × (result ≤ at + line_room) }
 {
-    let w = write_line(&mut s[at..], m);
-    at + w.length
+    at + write_line(&mut s[at..], m).unwrap_or(0)
 }
 
-fn put_sent(s: &mut [u8], at: usize, x: Sent) -> usize
+fn put_sent(s: &mut [u8], at: usize, x: Option<Message>) -> usize
     requires { SentWritable x × (at + line_room ≤ length s.old) }
     ensures { (Puts s.old at (sent_text x) result s.new) × (result ≤ at + line_room) }
 {
     match x {
-        Sent::Nothing => {
+        None => {
             put_byte(s, at, DASH);
             put_byte(s, at + 1, LF);
             at + 2
         }
-        Sent::Message(m) => put_message(s, at, m),
+        Some(m) => put_message(s, at, m),
     }
 }
 
+// The number is what is printed.
 pub(crate) fn put_event(
     s: &mut [u8],
     at: usize,
     k: u64,
     number: u8,
-    d: Decided,
+    d: Option<Entry>,
     margin: i32,
-    x: Sent,
+    x: Option<Message>,
 ) -> usize
     requires { SentWritable x × (at + event_line_room ≤ length s.old) }
     ensures { (Puts s.old at (event_line k number d margin x) result s.new) × (result ≤ at + event_line_room) }
@@ -106,63 +105,31 @@ pub(crate) fn put_event(
     put_sent(s, e, x)
 }
 
-pub(crate) fn asks(x: Sent) -> bool
+pub(crate) fn asks(x: Option<Message>) -> bool
     ensures { result ≡ sends_ask x }
 {
-    match x {
-        Sent::Nothing => false,
-        Sent::Message(m) => match m {
-            Message::Ask(q) => true,
-            _ => false,
-        },
-    }
+    matches!(x, Some(Message::Ask(_)))
 }
 
-fn put_row(s: &mut [u8], at: usize, row: SeatRow) -> usize
+fn put_row(s: &mut [u8], at: usize, row: Option<Row>) -> usize
     requires { RowWritable row × (at + line_room ≤ length s.old) }
     ensures { Puts s.old at (row_lines (row_list row [])) result s.new }
 {
     match row {
-        SeatRow::Empty => at,
-        SeatRow::Filled(r) => put_message(s, at, Message::Cast(r)),
+        None => at,
+        Some(r) => put_message(s, at, Message::Cast(r)),
     }
 }
 
 // The rows of a request that goes out, in seat order.
-pub(crate) fn put_rows<'a>(
-    s: &mut [u8],
-    at: usize,
-    filled: u64,
-    cast: u64,
-    verified: u64,
-    entries: &'a Entries,
-    masks: &'a [u64; 64],
-    views: &'a [u32; 64],
-    n: u8,
-    f: u8,
-    v: View,
-) -> usize
+pub(crate) fn put_rows(s: &mut [u8], at: usize, rows: &VoteRows, n: u8, f: u8, v: View) -> usize
     requires { (n ≤ 64) × (at + rows_room + line_room ≤ length s.old) }
-    ensures { (Puts s.old at (row_lines (rows_sent n f v (table_of filled (votes_of cast verified entries.now masks.now views.now)))) result s.new) × (result ≤ at + rows_room) }
+    ensures { (Puts s.old at (row_lines (rows_sent n f v rows.now)) result s.new) × (result ≤ at + rows_room) }
 {
-    let end = mask::rows_of(n);
-    let mut k: usize = 0;
     let mut p = at;
-    while k < end {
-        let r = request_row(
-            filled,
-            cast,
-            verified,
-            entries,
-            masks,
-            views,
-            n,
-            f,
-            v,
-            Seat(k as u8),
-        );
+    for k in 0..mask::rows_of(n) {
+        let r = rows.request_row(n, f, v, Seat(k as u8));
         p = put_row(s, p, r);
-        k += 1;
     }
     p
 }

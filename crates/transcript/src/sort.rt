@@ -1,8 +1,9 @@
-// What a line is to the replica, beside a request that may be waiting for its rows.
+// What a line is to the replica, beside a request that may be waiting for its rows. A match within a match, and no pattern within a pattern:
+// of that the arm `_` tells the proof nothing (tried).
 ghost use Rattle.std.specs.Prelude.{◌≡◌};
 ghost use Rattle.transcript.specs.Feeding.{read_unless, spoiled_row, sorted_row, sorted_line, sorted};
 
-use messages::read::{Line, read_line};
+use messages::read::read_line;
 use messages::{Message, Request};
 use votes::Row;
 
@@ -26,13 +27,10 @@ pub(crate) struct Sorted {
 }
 
 // A line whose front was dropped is too long to be any.
-pub(crate) fn read_unless(cut: bool, line: &[u8]) -> Line
+pub(crate) fn read_unless(cut: bool, line: &[u8]) -> Option<Message>
     ensures { result ≡ read_unless cut line.now }
 {
-    if cut {
-        return Line::Malformed;
-    }
-    read_line(line)
+    if cut { None } else { read_line(line) }
 }
 
 fn spoiled_row(left: u8) -> Sorted
@@ -40,24 +38,24 @@ fn spoiled_row(left: u8) -> Sorted
 {
     Sorted {
         event: Event::Unread,
-        left: left,
+        left,
         spoiled: true,
     }
 }
 
 // `left` is what is left behind this line.
-fn sort_row(l: Line, left: u8, spoiled: bool) -> Sorted
+fn sort_row(l: Option<Message>, left: u8, spoiled: bool) -> Sorted
     ensures { result ≡ sorted_row l left spoiled }
 {
     if spoiled {
         return spoiled_row(left);
     }
     match l {
-        Line::Malformed => spoiled_row(left),
-        Line::Read(m) => match m {
+        None => spoiled_row(left),
+        Some(m) => match m {
             Message::Cast(r) => Sorted {
                 event: Event::Row(r),
-                left: left,
+                left,
                 spoiled: false,
             },
             _ => spoiled_row(left),
@@ -65,16 +63,16 @@ fn sort_row(l: Line, left: u8, spoiled: bool) -> Sorted
     }
 }
 
-fn sort_line(l: Line) -> Sorted
+fn sort_line(l: Option<Message>) -> Sorted
     ensures { result ≡ sorted_line l }
 {
     match l {
-        Line::Malformed => Sorted {
+        None => Sorted {
             event: Event::Unread,
             left: 0,
             spoiled: false,
         },
-        Line::Read(m) => match m {
+        Some(m) => match m {
             Message::Ask(q) => Sorted {
                 event: Event::Opened(q),
                 left: q.count,
@@ -89,11 +87,12 @@ fn sort_line(l: Line) -> Sorted
     }
 }
 
-pub(crate) fn sort(l: Line, left: u8, spoiled: bool) -> Sorted
+pub(crate) fn sort(l: Option<Message>, left: u8, spoiled: bool) -> Sorted
     ensures { result ≡ sorted l left spoiled }
 {
     if 0 < left {
-        return sort_row(l, left - 1, spoiled);
+        sort_row(l, left - 1, spoiled)
+    } else {
+        sort_line(l)
     }
-    sort_line(l)
 }

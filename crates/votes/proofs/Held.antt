@@ -5,16 +5,12 @@ use mathlib.Core.Path.{◌≡◌, refl, sym, ◌∙◌}
 use lib.Dec.{ltb}
 use lib.Bits.{bit_and}
 use borrow.Author.Tests.{ltb-true, ltb-false}
-use Rattle.base.specs.Tests.{true≢false, and_true}
-use Rattle.seats.specs.declared.View.{View}
+use Rattle.base.specs.Tests.{true≢false}
 use Rattle.seats.specs.Seats.{count}
 use Rattle.seats.specs.Mask.{bit, mask, rows_of, seats_in}
 use Rattle.seats.specs.Bits.{bit_past}
 use Rattle.seats.specs.Marks.{marks_of, marks_and, marks_seats, rows_le}
 use Rattle.seats.specs.Past.{count_past}
-use Rattle.votes.specs.declared.VoteRows.{VoteRows}
-use Rattle.votes.specs.Vote.{valid}
-use Rattle.votes.specs.Rows.{vote_at, has_row}
 
 -- The filled rows of seats below n, counted in a mask, for any n.
 pub filled_counted : (n b m : ℕ) → m < 2 ^ 64 → b ≡ mask (λ k. true) (rows_of n) → seats_in (bit_and b m) ≡ count (bit m) n
@@ -22,11 +18,10 @@ filled_counted n b m h e =
     marks_seats (rows_le n) (marks_and (rows_of n) b m (λ k. true) (bit m) (marks_of (rows_of n) b (λ k. true) e) (λ k l. refl))
     ∙ count_past (bit m) n (λ k l. bit_past 64 m k h l)
 
--- A seat whose row counts has one of the 64.
-pub row_low : (n f : ℕ) (v : View) (t : VoteRows) (k : ℕ) (held : Bool) → held ≡ has_row n f v t k → held ≡ true → t.filled < 2 ^ 64 → k < 64
-unfolding has_row
-row_low n f v t k held e on h = go (ltb k 64) refl
+-- A seat that is in a mask is one of the 64.
+pub row_low : (m k : ℕ) → bit m k ≡ true → m < 2 ^ 64 → k < 64
+row_low m k on h = go (ltb k 64) refl
   where
     go : (b : Bool) → ltb k 64 ≡ b → k < 64
     go true q = ltb-true k 64 q
-    go false q = true≢false (sym (and_true (bit t.filled k) (valid n f v (vote_at t.votes k)) (sym e ∙ on)).0 ∙ bit_past 64 t.filled k h (ltb-false k 64 q))
+    go false q = true≢false (sym on ∙ bit_past 64 m k h (ltb-false k 64 q))

@@ -1,4 +1,5 @@
 pub mod Contracts
 pub mod Held
+pub mod Judged
 pub mod Masked
 pub mod Pairs

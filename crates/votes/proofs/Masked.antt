@@ -2,7 +2,7 @@
 use Prim.Native.Nat.{ℕ, zero, suc, ◌≤◌, ◌<◌}
 use mathlib.Core.Bool.{Bool, true, false, not, ◌&&◌, cond}
 use mathlib.Core.Logic.{◌⊎◌, inl, inr}
-use mathlib.Core.Option.{Option, none, some}
+use Rattle.std.specs.Prelude.{Option, None, Some}
 use mathlib.Core.Path.{◌≡◌, refl, sym, ap, ap₂, ◌∙◌}
 use native.Mathlib.Omega.{arith}
 use native.Mathlib.Decide.{ℕ_discrete}
@@ -149,11 +149,11 @@ module _ (n f : ℕ) (has : ℕ → Bool) (vote : ℕ → Vote) (room : n ≤ 64
           ∙ ap (λ x. cond x (after_two n f has vote t.w) (forced_to (smallest (is_at n f has vote t.w) entry n))) (sym b_is ∙ e)
           ∙ ap forced_to (the_one (smallest (is_at n f has vote t.w) entry n) refl))
         where
-          the_one : (o : Option Entry) → smallest (is_at n f has vote t.w) entry n ≡ o → smallest (is_at n f has vote t.w) entry n ≡ some (entry (count_trailing_zeros 64 t.top))
-          the_one none q = absurd (smallest_no (is_at n f has vote t.w) entry n q (count_trailing_zeros 64 t.top) first_top.0 (is_true _ first_top.1))
-          the_one (some x) q =
+          the_one : (o : Option Entry) → smallest (is_at n f has vote t.w) entry n ≡ o → smallest (is_at n f has vote t.w) entry n ≡ Some (entry (count_trailing_zeros 64 t.top))
+          the_one None q = absurd (smallest_no (is_at n f has vote t.w) entry n q (count_trailing_zeros 64 t.top) first_top.0 (is_true _ first_top.1))
+          the_one (Some x) q =
               let r = smallest_some (is_at n f has vote t.w) entry n x q in
-              q ∙ ap some (sym r.3 ∙ alike e r.0 r.1 r.2)
+              q ∙ ap Some (sym r.3 ∙ alike e r.0 r.1 r.2)
 
       module _ (e : b ≡ true) (others : ℕ) (mo : Marks n others (is_other n f has vote t.w)) where
         past_3 : selection n f has vote ≡ after_two n f has vote t.w

@@ -1,8 +1,11 @@
 -- What the selection answers is safe: called by itself over a list of rows, and over the leader's table.
-use Rattle.std.specs.Prelude.{ℕ, ◌≤◌, ◌<◌, ◌≡◌, refl, Bool, true, false, not, ◌||◌, cond, List, [], ◌∷◌, eqb, ltb, length}
+use Rattle.std.specs.Prelude.{ℕ, ◌≤◌, ◌<◌, ◌≡◌, refl, Bool, true, false, not, ◌||◌, cond, List, [], ◌∷◌, eqb, ltb, length, Result, Ok, Err}
 use Rattle.std.proofs.Common.{sym, ap, ◌∙◌, subst, subst₂, arith, eqb→eq, eqb-true}
 use Rattle.std.proofs.Math.Decide.{ℕ_discrete}
 use Rattle.std.proofs.Math.Dec.{T}
+use Rattle.base.specs.declared.refusal.Refusal.{Refusal}
+use Rattle.base.specs.Refusal.{Refusals, first, judged, number_of as refusal_number_of}
+use Rattle.base.specs.RefusalLaws.{named, number_judged}
 use Rattle.base.specs.Tests.{and_l, and_r, true_is, true≢false, or_false}
 use Rattle.entry.specs.declared.Entry.{Entry}
 use Rattle.seats.specs.declared.View.{View}
@@ -12,22 +15,30 @@ use Rattle.votes.specs.declared.Vote.{Vote}
 use Rattle.votes.specs.declared.Row.{Row}
 use Rattle.votes.specs.declared.VoteRows.{VoteRows}
 use Rattle.votes.specs.declared.Choice.{Choice}
-use Rattle.votes.specs.declared.Selected.{Selected}
 use Rattle.votes.specs.Vote.{valid}
 use Rattle.votes.specs.Selection.{selection}
-use Rattle.votes.specs.Rows.{vote_at, has_row, call_number, answered, number_of, chosen, has_seat, vote_of, rising, sound, all_sound, broken, rows_number, selected, no_rows, gathered, selected_from}
-use Rattle.votes.specs.RowLaws.{call_taken, rows_refused, rows_taken, answered_taken, answered_number}
+use Rattle.votes.specs.Rows.{vote_at, has_row, call_refusals, call_number, answered, number_of, chosen, has_seat, vote_of, rising, sound, all_sound, broken, rows_refusals, rows_number, selected, no_rows, gathered, selected_from}
+use Rattle.votes.specs.RowLaws.{call_taken, rows_refused, rows_taken, answered_number}
 use Rattle.votes.specs.Gather.{gathered_selected}
 use Rattle.votes.specs.History.{History, Leaves, Safe, Honest}
 use Rattle.votes.specs.Claims.{Claim, Claims, TableClaims, Covered}
 use Rattle.votes.specs.Safety.{selection_safe}
 
 -- ---- an answer that is a choice was not refused
-pub choice_taken : (number : ℕ) (s c : Choice) → answered number (Selected.Chosen s) ≡ Selected.Chosen c → (number ≡ 0) × (s ≡ c)
-choice_taken number s c e =
-    let zero_number : number ≡ 0 = sym (answered_number number s) ∙ ap number_of e in
-    let same = answered_taken number (Selected.Chosen s) zero_number ∙ e in
-    (zero_number, cc)
+abbrev is_choice : Result Choice Refusal → Bool
+is_choice (Ok c) = true
+is_choice (Err why) = false
+
+pub choice_taken : (r : Result (Unit {0}) Refusal) (s c : Choice) → answered r (Ok s) ≡ Ok c → (refusal_number_of r ≡ 0) × (s ≡ c)
+choice_taken r s c e = (sym (answered_number r s) ∙ ap number_of e, go r e)
+  where
+    go : (r : Result (Unit {0}) Refusal) → answered r (Ok s) ≡ Ok c → s ≡ c
+    go (Ok x) q = cc
+    go (Err why) q = absurd (let z : ◌≡◌ {A = Bool} false true = ap is_choice q in true≢false (sym z))
+
+-- The same of a table: it gives no number.
+pub table_taken : (rs : Refusals) (s c : Choice) → T (named rs) → answered (judged rs) (Ok s) ≡ Ok c → (first rs ≡ 0) × (s ≡ c)
+table_taken rs s c t e = let taken = choice_taken (judged rs) s c e in (sym (number_judged rs t) ∙ taken.0, taken.1)
 
 pub call_first : (n f : ℕ) (v : View) (breaks : Bool) → rows_number n f v breaks ≡ 0 → (call_number n f v ≡ 0) × (breaks ≡ false)
 call_first n f v breaks e = elim (ℕ_discrete (call_number n f v) 0) [
@@ -70,10 +81,10 @@ module _ (n f : ℕ) (bad : ℕ → Bool) (h : History) (v : View) (few : count 
 
   -- The leader's table.
   pub chosen_safe : (t : VoteRows) → TableClaims n bad h v.0 t
-      → (c : Choice) → chosen n f v t ≡ Selected.Chosen c → (x : Entry) → Leaves c x → Safe n f bad h v.0 x
+      → (c : Choice) → chosen n f v t ≡ Ok c → (x : Entry) → Leaves c x → Safe n f bad h v.0 x
   unfolding chosen
   chosen_safe t claims c e =
-      let taken = choice_taken (call_number n f v) _ c e in
+      let taken = table_taken (call_refusals n f v) _ c tt e in
       taken_safe (has_row n f v t) (vote_at t.votes) taken.0 (table_row t claims) c taken.1
 
   -- ---- as a list
@@ -97,15 +108,15 @@ module _ (n f : ℕ) (bad : ℕ → Bool) (h : History) (v : View) (few : count 
 
   -- The selection called by itself.
   pub selected_safe : (rows : List Row) → Claims n bad h rows
-      → (c : Choice) → selected n f v rows ≡ Selected.Chosen c → (x : Entry) → Leaves c x → Safe n f bad h v.0 x
+      → (c : Choice) → selected n f v rows ≡ Ok c → (x : Entry) → Leaves c x → Safe n f bad h v.0 x
   unfolding selected
   selected_safe rows claims c e =
-      let taken = choice_taken (rows_number n f v (broken n f v rows)) _ c e in
+      let taken = table_taken (rows_refusals n f v (broken n f v rows)) _ c tt e in
       let call = call_first n f v (broken n f v rows) taken.0 in
       let all = unbroken_sound n f v rows call.1 in
       taken_safe (has_seat rows) (vote_of rows) call.0 (λ k l has. list_row rows claims all k has) c taken.1
 
   -- The same, gathered one row after the other.
   pub gathered_safe : (rows : List Row) → Claims n bad h rows
-      → (c : Choice) → selected_from (gathered (no_rows n f v) rows) ≡ Selected.Chosen c → (x : Entry) → Leaves c x → Safe n f bad h v.0 x
+      → (c : Choice) → selected_from (gathered (no_rows n f v) rows) ≡ Ok c → (x : Entry) → Leaves c x → Safe n f bad h v.0 x
   gathered_safe rows claims c e = selected_safe rows claims c (sym (gathered_selected n f v rows) ∙ e)

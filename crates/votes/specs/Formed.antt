@@ -1,6 +1,6 @@
 -- 02, Two: "wherever 01 asks for a well-formed entry". Of votes: no rows are taken, as a request's or by the selection by itself, in which a
 -- vote names an entry that is not well formed.
-use Rattle.std.specs.Prelude.{ℕ, ◌≡◌, Bool, true, false, not, ◌&&◌, ◌||◌, List, [], ◌∷◌, T, eqb, ltb, length}
+use Rattle.std.specs.Prelude.{ℕ, ◌≡◌, Bool, true, false, not, ◌&&◌, ◌||◌, List, [], ◌∷◌, T, eqb, ltb, length, Ok}
 use Rattle.base.specs.Tests.{and_l, and_r, and_i, or_false}
 use Rattle.entry.specs.Entry.{well_formed}
 use Rattle.seats.specs.declared.View.{View}
@@ -10,12 +10,11 @@ use Rattle.votes.specs.declared.Vote.{Vote}
 use Rattle.votes.specs.declared.Row.{Row}
 use Rattle.votes.specs.declared.VoteRows.{VoteRows}
 use Rattle.votes.specs.declared.Choice.{Choice}
-use Rattle.votes.specs.declared.Selected.{Selected}
 use Rattle.votes.specs.Vote.{valid}
 use Rattle.votes.specs.VoteLaws.{valid_formed}
-use Rattle.votes.specs.Rows.{vote_at, has_row, sound, all_sound, broken, rows_number, selected}
+use Rattle.votes.specs.Rows.{vote_at, has_row, sound, all_sound, broken, rows_refusals, selected}
 use Rattle.votes.specs.Request.{unfit}
-use Rattle.votes.specs.Answers.{choice_taken, call_first, unbroken_sound}
+use Rattle.votes.specs.Answers.{table_taken, call_first, unbroken_sound}
 
 -- A vote is nil, or its entry is well formed.
 abbrev pub formed_vote : Vote → Bool
@@ -54,8 +53,8 @@ pub fit_formed : (n f : ℕ) (v : View) (rows : List Row) → unfit n f v rows �
 fit_formed n f v rows e = sound_formed n f v rows (unbroken_sound n f v rows (or_false (ltb (length rows) (quorum n f)) (broken n f v rows) e).1)
 
 -- and of the selection by itself.
-pub selected_formed : (n f : ℕ) (v : View) (rows : List Row) (c : Choice) → selected n f v rows ≡ Selected.Chosen c → T (formed_rows rows)
+pub selected_formed : (n f : ℕ) (v : View) (rows : List Row) (c : Choice) → selected n f v rows ≡ Ok c → T (formed_rows rows)
 unfolding selected
 selected_formed n f v rows c e =
-    let taken = (choice_taken (rows_number n f v (broken n f v rows)) _ c e).0 in
+    let taken = (table_taken (rows_refusals n f v (broken n f v rows)) _ c tt e).0 in
     sound_formed n f v rows (unbroken_sound n f v rows (call_first n f v (broken n f v rows) taken).1)

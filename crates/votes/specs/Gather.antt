@@ -1,5 +1,5 @@
 -- Rows gathered one after the other choose as the list of them does.
-use Rattle.std.specs.Prelude.{ℕ, ◌+◌, ◌≤◌, ◌<◌, Bool, true, false, not, ◌&&◌, ◌||◌, ◌≡◌, leb, ltb, length}
+use Rattle.std.specs.Prelude.{ℕ, ◌+◌, ◌≤◌, ◌<◌, Bool, true, false, not, ◌&&◌, ◌||◌, ◌≡◌, leb, ltb, length, Result, Ok, Err}
 use Rattle.std.proofs.Math.Bool.{cond}
 use mathlib.Core.List.{List, [], ◌∷◌}
 use Rattle.std.proofs.Math.Path.{refl, sym, ap, subst}
@@ -7,16 +7,19 @@ use Rattle.std.proofs.Common.{ap₂, ◌∙◌, arith, leb→le, ltb→lt}
 use Rattle.std.proofs.Math.Decide.{ℕ_discrete}
 use Rattle.std.proofs.Math.Dec.{T, eqb}
 use borrow.Author.Tests.{eqb-true, eqb-false, eq-eqb, ne_eqb, le-ltb}
+use Rattle.base.specs.declared.refusal.Refusal.{Refusal}
+use Rattle.base.specs.Refusal.{judged, number_of as refusal_number_of}
+use Rattle.base.specs.RefusalLaws.{number_judged}
 use Rattle.base.specs.Tests.{and_l, and_r, is_true, true_is, true≢false, same_test, or_false, or_r, or_alone, or_assoc}
 use Rattle.seats.specs.declared.View.{View}
 use Rattle.seats.specs.Mask.{bit}
 use Rattle.seats.specs.Bits.{bit_zero}
+use Rattle.votes.specs.declared.Choice.{Choice}
 use Rattle.votes.specs.declared.Row.{Row}
 use Rattle.votes.specs.declared.Rows.{Rows}
-use Rattle.votes.specs.declared.Selected.{Selected}
 use Rattle.votes.specs.Selection.{selection}
 use Rattle.votes.specs.SelectionExt.{SameVote, selection_ext}
-use Rattle.votes.specs.Rows.{vote_at, with_vote, has_seat, vote_of, follower, rising, sound, all_sound, broken, answered, call_number, rows_number, selected, no_rows, added, gathered, selected_from}
+use Rattle.votes.specs.Rows.{vote_at, with_vote, has_seat, vote_of, follower, rising, sound, all_sound, broken, answered, call_number, rows_refusals, rows_number, selected, no_rows, added, gathered, selected_from}
 use Rattle.votes.specs.RowLaws.{call_taken, rows_refused, rows_taken}
 use Rattle.votes.specs.TableLaws.{Sized, none_sized, with_sized, filled_at, vote_same, vote_other}
 
@@ -150,30 +153,29 @@ module _ (n f : ℕ) (v : View) (rows : List Row) where
       same k t = subst (λ x. SameVote x (vote_of rows k)) (sym (gathered_vote n h (no_rows n f v) rows k none_sized (rises e) ∙ ap (λ b. cond b (vote_of rows k) (vote_at (no_rows n f v).table.votes k)) (true_is (has_seat rows k) (subst T (filled_alike h e k) t))))
           (record { cast = refl; view = λ x. refl; entry = λ x. refl })
 
-answered_alike : (a b : ℕ) (s t : Selected) → a ≡ b → (b ≡ 0 → s ≡ t) → answered a s ≡ answered b t
-answered_alike a b s t e h = ap (λ x. answered x s) e ∙ go (eqb b 0) refl
-  where
-    go : (c : Bool) → eqb b 0 ≡ c → cond (eqb b 0) s (Selected.Refused b) ≡ cond (eqb b 0) t (Selected.Refused b)
-    go true q = ap (λ x. cond (eqb b 0) x (Selected.Refused b)) (h (eqb-true b 0 q))
-    go false q = ap (λ c. cond c s (Selected.Refused b)) q ∙ sym (ap (λ c. cond c t (Selected.Refused b)) q)
+answered_alike : (q : Result (Unit {0}) Refusal) {r : Result (Unit {0}) Refusal} {s t : Result Choice Refusal}
+    → r ≡ q → (q ≡ Ok tt → s ≡ t) → answered r s ≡ answered q t
+answered_alike (Ok x) {r} {s} {t} e h = ap (λ y. answered y s) e ∙ h refl
+answered_alike (Err why) {r} {s} {t} e h = ap (λ y. answered y s) e
 
 -- The call is the one that the gathering began with.
 as_called : (n f : ℕ) (v : View) (t : Rows) → SameCall t (no_rows n f v)
-    → selected_from t ≡ answered (rows_number n f v t.broken) (Selected.Chosen (selection n f (bit t.table.filled) (vote_at t.table.votes)))
+    → selected_from t ≡ answered (judged (rows_refusals n f v t.broken)) (Ok (selection n f (bit t.table.filled) (vote_at t.table.votes)))
 unfolding selected_from no_rows
 as_called n f v t c = ap (λ a. answer a t.f t.view) c.n ∙ ap (λ b. answer n b t.view) c.f ∙ ap (answer n f) c.view
   where
-    answer : ℕ → ℕ → View → Selected
-    answer a b d = answered (rows_number a b d t.broken) (Selected.Chosen (selection a b (bit t.table.filled) (vote_at t.table.votes)))
+    answer : ℕ → ℕ → View → Result Choice Refusal
+    answer a b d = answered (judged (rows_refusals a b d t.broken)) (Ok (selection a b (bit t.table.filled) (vote_at t.table.votes)))
 
 pub gathered_selected : (n f : ℕ) (v : View) (rows : List Row) → selected_from (gathered (no_rows n f v) rows) ≡ selected n f v rows
-unfolding selected
+unfolding selected refusal_number_of
 gathered_selected n f v rows =
     as_called n f v (all n f v rows) (gathered_call (no_rows n f v) rows)
-    ∙ answered_alike _ (rows_number n f v (broken n f v rows)) _ _ (ap (rows_number n f v) (breaks_alike n f v rows)) (λ z. chosen (ℕ_discrete (call_number n f v) 0) (broken n f v rows) refl z)
+    ∙ answered_alike (judged (rows_refusals n f v (broken n f v rows))) (ap (λ b. judged (rows_refusals n f v b)) (breaks_alike n f v rows))
+    (λ z. chosen (ℕ_discrete (call_number n f v) 0) (broken n f v rows) refl (sym (number_judged (rows_refusals n f v (broken n f v rows)) tt) ∙ ap refusal_number_of z))
   where
     chosen : Dec (call_number n f v ≡ 0) → (b : Bool) → broken n f v rows ≡ b → rows_number n f v b ≡ 0
-        → Selected.Chosen (selection n f (bit (all n f v rows).table.filled) (vote_at (all n f v rows).table.votes)) ≡ Selected.Chosen (selection n f (has_seat rows) (vote_of rows))
+        → ◌≡◌ {A = Result Choice Refusal} (Ok (selection n f (bit (all n f v rows).table.filled) (vote_at (all n f v rows).table.votes))) (Ok (selection n f (has_seat rows) (vote_of rows)))
     chosen (no z) b e q = absurd (z (sym (rows_refused n f v b z) ∙ q))
     chosen (yes z) true e q = absurd (let w : ◌≡◌ {A = ℕ} 15 0 = sym (rows_taken n f v true z) ∙ q in omega arith)
-    chosen (yes z) false e q = ap Selected.Chosen (choose_alike n f v rows (call_taken n f v z).0.most e)
+    chosen (yes z) false e q = ap Ok (choose_alike n f v rows (call_taken n f v z).0.most e)

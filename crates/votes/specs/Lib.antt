@@ -15,7 +15,6 @@ pub mod Selection
 pub mod SelectionExt
 pub mod SentLaws
 pub mod Smallest
-pub mod Steps
 pub mod TableLaws
 pub mod TwoViews
 pub mod Vote

@@ -1,5 +1,6 @@
 -- 01's 15 and 16: what a request's rows must be, over the list of them, and over rows gathered one after the other.
-use Rattle.std.specs.Prelude.{ℕ, zero, suc, Bool, true, false, not, ◌&&◌, ◌||◌, cond, List, [], ◌∷◌, eqb, ltb, length}
+use Rattle.std.specs.Prelude.{ℕ, zero, suc, Bool, true, false, not, ◌&&◌, ◌||◌, cond, List, [], ◌∷◌, Option, None, Some, Result, Ok, Err, eqb, ltb, length}
+use Rattle.base.specs.declared.refusal.Refusal.{Refusal}
 use Rattle.base.specs.Refusal.{Refusals}
 use Rattle.entry.specs.declared.Entry.{Entry}
 use Rattle.entry.specs.Entry.{same}
@@ -11,9 +12,7 @@ use Rattle.seats.specs.Mask.{bit}
 use Rattle.votes.specs.declared.Row.{Row}
 use Rattle.votes.specs.declared.Rows.{Rows}
 use Rattle.votes.specs.declared.VoteRows.{VoteRows}
-use Rattle.votes.specs.declared.SeatRow.{SeatRow}
 use Rattle.votes.specs.declared.Choice.{Choice}
-use Rattle.votes.specs.declared.Selected.{Selected}
 use Rattle.votes.specs.Selection.{selection}
 use Rattle.votes.specs.Rows.{vote_at, has_row, has_seat, vote_of, broken, number_of, selected_from}
 
@@ -43,9 +42,9 @@ gathered_for t n f v = (eqb t.n n && eqb t.f f) && eqb t.view.0 v.0
 abbrev pub too_few : Rows → Bool
 too_few t = ltb (count (bit t.table.filled) t.n) (quorum t.n t.f)
 
-abbrev pub allowed : Selected → Entry → Bool
-allowed (Selected.Refused number) e = false
-allowed (Selected.Chosen c) e = allows c e
+abbrev pub allowed : Result Choice Refusal → Entry → Bool
+allowed (Ok c) e = allows c e
+allowed (Err why) e = false
 
 unfoldable pub gathered_refusals : Rows → ℕ → ℕ → View → Entry → Refusals
 gathered_refusals t n f v e =
@@ -59,12 +58,12 @@ gathered_refusals t n f v e =
 unfoldable pub row_at : View → VoteRows → Seat → Row
 row_at v t s = record { seat = s; verified = true; view = v; vote = vote_at t.votes s.0 }
 
-unfoldable pub row_sent : ℕ → ℕ → View → VoteRows → Seat → SeatRow
-row_sent n f v t s = cond (ltb s.0 n && has_row n f v t s.0) (SeatRow.Filled (row_at v t s)) SeatRow.Empty
+unfoldable pub row_sent : ℕ → ℕ → View → VoteRows → Seat → Option Row
+row_sent n f v t s = cond (ltb s.0 n && has_row n f v t s.0) (Some (row_at v t s)) None
 
-abbrev pub row_list : SeatRow → List Row → List Row
-row_list SeatRow.Empty rows = rows
-row_list (SeatRow.Filled r) rows = r ∷ rows
+abbrev pub row_list : Option Row → List Row → List Row
+row_list None rows = rows
+row_list (Some r) rows = r ∷ rows
 
 -- Those of seats k, k + 1, .., d of them looked at.
 abbrev pub sent_from : ℕ → ℕ → View → VoteRows → ℕ → ℕ → List Row

@@ -1,7 +1,7 @@
 -- A request gets one number over the list of its rows and over the rows gathered; and the rows that a leader sends are as many
 -- as count, and never broken.
 use Prim.Native.Nat.{ℕ, zero, suc, ◌+◌, ◌≤◌, ◌<◌}
-use Rattle.std.specs.Prelude.{Bool, not, ◌&&◌, ◌||◌, List, [], ◌∷◌, ◌≡◌, T, eqb, leb}
+use Rattle.std.specs.Prelude.{Bool, not, ◌&&◌, ◌||◌, List, [], ◌∷◌, ◌≡◌, T, eqb, leb, None, Some, Result, Ok, Err}
 use Rattle.std.proofs.Math.Bool.{true, false, cond}
 use Rattle.std.proofs.Math.Path.{refl, ap, ap₂}
 use Rattle.std.proofs.Common.{sym, ◌∙◌, le→leb, ltb→lt}
@@ -10,7 +10,9 @@ use Rattle.std.proofs.Math.Decide.{ℕ_discrete}
 use Rattle.std.proofs.Math.Dec.{eqb_refl, ltb}
 use Rattle.std.proofs.Math.ListN.{length}
 use borrow.Author.Tests.{eq-eqb, ne_eqb, lt-ltb}
-use Rattle.base.specs.Refusal.{first}
+use Rattle.base.specs.declared.refusal.Refusal.{Refusal}
+use Rattle.base.specs.Refusal.{first, refusal, judged}
+use Rattle.base.specs.RefusalLaws.{clear, judged_behind}
 use Rattle.base.specs.Tests.{and_l, and_r, and_i, is_true, true_is, and_true, or_r}
 use Rattle.entry.specs.declared.Entry.{Entry}
 use Rattle.seats.specs.declared.View.{View}
@@ -20,13 +22,12 @@ use Rattle.seats.specs.Sizes.{quorum}
 use Rattle.seats.specs.Mask.{bit}
 use Rattle.votes.specs.declared.Row.{Row}
 use Rattle.votes.specs.declared.Rows.{Rows}
-use Rattle.votes.specs.declared.SeatRow.{SeatRow}
-use Rattle.votes.specs.declared.Selected.{Selected}
 use Rattle.votes.specs.declared.VoteRows.{VoteRows}
+use Rattle.votes.specs.declared.Choice.{Choice}
 use Rattle.votes.specs.Vote.{valid}
 use Rattle.votes.specs.Selection.{selection}
-use Rattle.votes.specs.Rows.{vote_at, has_row, has_seat, vote_of, follower, rising, sound, all_sound, broken, call_number, answered, number_of, selected, selected_from, no_rows, gathered}
-use Rattle.votes.specs.RowLaws.{call_taken, rows_taken}
+use Rattle.votes.specs.Rows.{vote_at, has_row, has_seat, vote_of, follower, rising, sound, all_sound, broken, call_refusals, call_number, rows_refusals, answered, number_of, selected, selected_from, no_rows, gathered}
+use Rattle.votes.specs.RowLaws.{call_taken}
 use Rattle.votes.specs.Gather.{gathered_call, rising_above, broken_is, all, rises, filled_alike, gathered_selected}
 use Rattle.votes.specs.Request.{allows, allowed, gathered_for, too_few, gathered_refusals, row_refusals, row_at, row_sent, row_list, sent_from, rows_sent}
 
@@ -62,8 +63,8 @@ rows_counted n s (r ∷ rs) t =
 
 -- ---- 15 and 16, over the list and over what was gathered
 module _ (n f : ℕ) (v : View) (rows : List Row) (e : Entry) (taken : call_number n f v ≡ 0) where
-  abbrev choice : Selected
-  choice = Selected.Chosen (selection n f (has_seat rows) (vote_of rows))
+  abbrev choice : Result Choice Refusal
+  choice = Ok (selection n f (has_seat rows) (vote_of rows))
 
   abbrev few : ℕ → Bool
   few k = ltb k (quorum n f)
@@ -72,7 +73,7 @@ module _ (n f : ℕ) (v : View) (rows : List Row) (e : Entry) (taken : call_numb
   abbrev other : ℕ
   other = cond (not (allows (selection n f (has_seat rows) (vote_of rows)) e)) 16 0
 
-  abbrev number : Bool → Bool → Selected → ℕ
+  abbrev number : Bool → Bool → Result Choice Refusal → ℕ
   number theirs small s = first ((15, not theirs || (small || not (eqb (number_of s) 0))) ∷ (16, not (allowed s e)) ∷ [])
 
   theirs : gathered_for (all n f v rows) n f v ≡ true
@@ -87,11 +88,17 @@ module _ (n f : ℕ) (v : View) (rows : List Row) (e : Entry) (taken : call_numb
       let c = gathered_call (no_rows n f v) rows in
       ap₂ (λ a b. ltb (count (bit (all n f v rows).table.filled) a) (quorum a b)) c.n c.f
 
-  chosen_as : (b : Bool) → broken n f v rows ≡ b → selected n f v rows ≡ cond b (Selected.Refused 15) choice
+  -- The answer where rows break 15's conditions or not.
+  abbrev answer_for : Bool → Result Choice Refusal
+  answer_for b = cond b (Err (refusal 15)) choice
+
+  chosen_as : (b : Bool) → broken n f v rows ≡ b → selected n f v rows ≡ answer_for b
   unfolding selected
-  chosen_as b q = ap (λ k. answered k choice) (rows_taken n f v (broken n f v rows) taken ∙ ap (λ c. cond c 15 0) q) ∙ go b
+  chosen_as b q =
+      ap (λ c. answered (judged (rows_refusals n f v c)) choice) q
+      ∙ ap (λ r. answered r choice) (judged_behind (call_refusals n f v) ((15, b) ∷ []) (clear 0 (call_refusals n f v) tt taken)) ∙ go b
     where
-      go : (b : Bool) → answered (cond b 15 0) choice ≡ cond b (Selected.Refused 15) choice
+      go : (b : Bool) → answered (judged ((15, b) ∷ [])) choice ≡ answer_for b
       go true = refl
       go false = refl
 
@@ -99,7 +106,7 @@ module _ (n f : ℕ) (v : View) (rows : List Row) (e : Entry) (taken : call_numb
   counted q = count_ext _ _ n (λ k l. filled_alike n f v rows (call_taken n f v taken).0.most q k) ∙ rows_counted n 0 rows (rises n f v rows q)
 
   same_number : (b : Bool) → broken n f v rows ≡ b
-      → number true (few (count (bit (all n f v rows).table.filled) n)) (cond b (Selected.Refused 15) choice) ≡ first (row_refusals n f v rows e)
+      → number true (few (count (bit (all n f v rows).table.filled) n)) (answer_for b) ≡ first (row_refusals n f v rows e)
   same_number true q =
       ap (λ b. cond b 15 16) (or_r (few (count (bit (all n f v rows).table.filled) n)) true refl)
       ∙ sym (ap (λ b. cond b 15 other) (or_r (few (length rows)) (broken n f v rows) q))
@@ -116,7 +123,7 @@ gathered_request n f v rows e taken =
     t : Rows
     t = all n f v rows
 
-    answer : Bool → Bool → Selected → ℕ
+    answer : Bool → Bool → Result Choice Refusal → ℕ
     answer = number n f v rows e taken
 
 -- ---- the rows that a leader sends
@@ -128,7 +135,7 @@ module _ (n f : ℕ) (v : View) (t : VoteRows) where
   unfolding row_sent
   row_length k rs = go (sends k)
     where
-      go : (b : Bool) → length (row_list (cond b (SeatRow.Filled (row_at v t (record { 0 = k }))) SeatRow.Empty) rs) ≡ b2n b + length rs
+      go : (b : Bool) → length (row_list (cond b (Some (row_at v t (record { 0 = k }))) None) rs) ≡ b2n b + length rs
       go true = omega arith
       go false = omega arith
 
@@ -162,7 +169,7 @@ module _ (n f : ℕ) (v : View) (t : VoteRows) where
       later = sent_from n f v t (suc k) d
 
       go : (b : Bool) → sends k ≡ b → T (rising n s later) × T (all_sound n f v later) → T (rising n (k + 1) later) × T (all_sound n f v later)
-          → T (rising n s (row_list (cond b (SeatRow.Filled row) SeatRow.Empty) later)) × T (all_sound n f v (row_list (cond b (SeatRow.Filled row) SeatRow.Empty) later))
+          → T (rising n s (row_list (cond b (Some row) None) later)) × T (all_sound n f v (row_list (cond b (Some row) None) later))
       go true e x y =
           let z = row_fits k s h e in
           (and_i (leb s k && ltb k n) (rising n (k + 1) later) z.0 y.0, and_i (sound n f v row) (all_sound n f v later) z.1 y.1)

@@ -1,12 +1,13 @@
 -- Laws of the rows of votes.
-use Rattle.std.specs.Prelude.{ℕ, Bool, true, false, cond, [], ◌∷◌, ◌≡◌, refl, eqb}
+use Rattle.std.specs.Prelude.{ℕ, Bool, true, false, not, cond, [], ◌∷◌, ◌≡◌, refl, eqb, Result, Ok, Err, is_err}
 use Rattle.std.proofs.Common.{sym, ap, ◌∙◌, arith, eqb-true, eq-eqb, ne_eqb}
 use Rattle.std.proofs.lemmas.Bool.{eqb-false}
-use Rattle.base.specs.RefusalLaws.{first_behind}
+use Rattle.base.specs.declared.refusal.Refusal.{Refusal}
+use Rattle.base.specs.Refusal.{number, refusal, judged, number_of as refusal_number_of}
+use Rattle.base.specs.RefusalLaws.{refusal_number, first_behind, number_judged}
 use Rattle.seats.specs.declared.View.{View}
 use Rattle.seats.specs.Sizes.{size_refusals, size_number}
 use Rattle.seats.specs.SizeLaws.{Allowed, sizes_taken}
-use Rattle.votes.specs.declared.Selected.{Selected}
 use Rattle.votes.specs.declared.Choice.{Choice}
 use Rattle.votes.specs.Rows.{call_refusals, call_number, rows_number, answered, number_of}
 
@@ -24,6 +25,10 @@ call_taken n f v e = go (eqb (size_number n f) 0) refl (eqb v.0 0) refl (sym (ca
     go true p false q z = (sizes_taken n f (eqb-true _ _ p), eqb-false v.0 0 q)
     go false p b q z = absurd (eqb-false _ _ p z)
 
+pub call_ok : (n f : ℕ) (v : View) → judged (call_refusals n f v) ≡ Ok tt → Allowed n f
+unfolding refusal_number_of
+call_ok n f v e = (call_taken n f v (sym (number_judged (call_refusals n f v) tt) ∙ ap refusal_number_of e)).0
+
 -- 15 is looked at behind the others.
 rows_after_call : (n f : ℕ) (v : View) (d : Bool) → rows_number n f v d ≡ cond (eqb (call_number n f v) 0) (cond d 15 0) (call_number n f v)
 rows_after_call n f v d = first_behind 0 (call_refusals n f v) ((15, d) ∷ []) tt
@@ -34,17 +39,21 @@ rows_refused n f v d h = rows_after_call n f v d ∙ ap (λ b. cond b (cond d 15
 pub rows_taken : (n f : ℕ) (v : View) (d : Bool) → call_number n f v ≡ 0 → rows_number n f v d ≡ cond d 15 0
 rows_taken n f v d h = rows_after_call n f v d ∙ ap (λ b. cond b (cond d 15 0) (call_number n f v)) (eq-eqb _ _ h)
 
--- What is answered behind the number.
-pub answered_refused : (number : ℕ) (s : Selected) → (number ≡ 0 → ⊥) → Selected.Refused number ≡ answered number s
-answered_refused number s h = sym (ap (λ b. cond b s (Selected.Refused number)) (ne_eqb number 0 h))
+-- What is answered behind a check, whatever it answers: its refusal, or what comes behind it.
+pub answered_refused : (r : Result (Unit {0}) Refusal) (s : Result Choice Refusal) (why : Refusal) → r ≡ Err why → Err why ≡ answered r s
+answered_refused r s why e = sym (ap (λ x. answered x s) e)
 
-pub answered_taken : (number : ℕ) (s : Selected) → number ≡ 0 → s ≡ answered number s
-answered_taken number s h = sym (ap (λ b. cond b s (Selected.Refused number)) (eq-eqb number 0 h))
+pub answered_taken : (r : Result (Unit {0}) Refusal) (s : Result Choice Refusal) → r ≡ Ok tt → s ≡ answered r s
+answered_taken r s e = sym (ap (λ x. answered x s) e)
 
--- The number of an answer is the one it was given for.
-pub answered_number : (number : ℕ) (c : Choice) → number_of (answered number (Selected.Chosen c)) ≡ number
-answered_number number c = go (eqb number 0) refl
-  where
-    go : (b : Bool) → eqb number 0 ≡ b → number_of (cond b (Selected.Chosen c) (Selected.Refused number)) ≡ number
-    go true e = sym (eqb-true number 0 e)
-    go false e = refl
+-- The number of an answer is that of the check.
+pub answered_number : (r : Result (Unit {0}) Refusal) (c : Choice) → number_of (answered r (Ok c)) ≡ refusal_number_of r
+unfolding refusal_number_of
+answered_number (Ok x) c = refl
+answered_number (Err why) c = refl
+
+-- A refusal has a number.
+pub refused_number : (s : Result Choice Refusal) → is_err s ≡ not (eqb (number_of s) 0)
+refused_number (Ok c) = refl
+refused_number (Err why) = ap not (sym (ne_eqb (number why) 0 (λ z.
+    let one : ◌≡◌ {A = ℕ} 1 (number why) = ap number (sym (ap refusal z) ∙ refusal_number why) in omega arith)))

@@ -1,6 +1,7 @@
 -- Rows of votes: the leader's table, by seat, and the rows of a request, in a list.
-use Rattle.std.specs.Prelude.{ℕ, ◌+◌, Bool, true, false, not, ◌&&◌, ◌||◌, cond, List, [], ◌∷◌, ◌++◌, eqb, leb, ltb, length, get_or, set, replicate}
-use Rattle.base.specs.Refusal.{Refusals, first}
+use Rattle.std.specs.Prelude.{ℕ, ◌+◌, Bool, true, false, not, ◌&&◌, ◌||◌, cond, List, [], ◌∷◌, ◌++◌, Result, Ok, Err, eqb, leb, ltb, length, get_or, set, replicate}
+use Rattle.base.specs.declared.refusal.Refusal.{Refusal}
+use Rattle.base.specs.Refusal.{Refusals, first, number, judged}
 use Rattle.entry.specs.Entry.{zero_entry}
 use Rattle.entry.specs.Table.{table_words, entry_at, with_entry}
 use Rattle.seats.specs.declared.View.{View}
@@ -11,7 +12,7 @@ use Rattle.votes.specs.declared.Votes.{Votes}
 use Rattle.votes.specs.declared.Row.{Row}
 use Rattle.votes.specs.declared.VoteRows.{VoteRows}
 use Rattle.votes.specs.declared.Rows.{Rows}
-use Rattle.votes.specs.declared.Selected.{Selected}
+use Rattle.votes.specs.declared.Choice.{Choice}
 use Rattle.votes.specs.Vote.{valid}
 use Rattle.votes.specs.Selection.{selection}
 
@@ -44,25 +45,23 @@ call_refusals n f v = size_refusals n f ++ ((5, eqb v.0 0) ∷ [])
 abbrev pub call_number : ℕ → ℕ → View → ℕ
 call_number n f v = first (call_refusals n f v)
 
-abbrev pub answered : ℕ → Selected → Selected
-answered number s = cond (eqb number 0) s (Selected.Refused number)
+-- What is answered where a call is judged: the refusal, or what comes behind it.
+abbrev pub answered : Result (Unit {0}) Refusal → Result Choice Refusal → Result Choice Refusal
+answered (Ok x) s = s
+answered (Err why) s = Err why
 
 -- 01's number of an answer: "0 means taken", here that there is a choice.
-abbrev pub number_of : Selected → ℕ
-number_of (Selected.Refused number) = number
-number_of (Selected.Chosen choice) = 0
+abbrev pub number_of : Result Choice Refusal → ℕ
+number_of (Ok c) = 0
+number_of (Err why) = number why
 
 -- The selection over the leader's table.
-unfoldable pub chosen : ℕ → ℕ → View → VoteRows → Selected
-chosen n f v t = answered (call_number n f v) (Selected.Chosen (selection n f (has_row n f v t) (vote_at t.votes)))
+unfoldable pub chosen : ℕ → ℕ → View → VoteRows → Result Choice Refusal
+chosen n f v t = answered (judged (call_refusals n f v)) (Ok (selection n f (has_row n f v t) (vote_at t.votes)))
 
 -- A table with no row.
 abbrev pub no_votes : VoteRows
 no_votes = table_of 0 (votes_of 0 0 (replicate table_words 0) (replicate 64 0) (replicate 64 0))
-
--- 64 numbers with x as number k; past the 64th nothing changes.
-unfoldable pub with_number : List ℕ → ℕ → ℕ → List ℕ
-with_number t k x = cond (ltb k 64) (set t k x) t
 
 -- "V vote: fills the sender's row." There is no row past the 64th.
 unfoldable pub with_vote : VoteRows → ℕ → Vote → VoteRows
@@ -112,11 +111,14 @@ broken n f v rows = ltb n (length rows) || (not (rising n 0 rows) || not (all_so
 
 -- "Called by itself, the selection answers 1 or 2 for a bad n or f, 5 for view 0, and 15 for a table that breaks 15's
 -- conditions on rows".
-abbrev pub rows_number : ℕ → ℕ → View → Bool → ℕ
-rows_number n f v breaks = first (call_refusals n f v ++ ((15, breaks) ∷ []))
+abbrev pub rows_refusals : ℕ → ℕ → View → Bool → Refusals
+rows_refusals n f v breaks = call_refusals n f v ++ ((15, breaks) ∷ [])
 
-unfoldable pub selected : ℕ → ℕ → View → List Row → Selected
-selected n f v rows = answered (rows_number n f v (broken n f v rows)) (Selected.Chosen (selection n f (has_seat rows) (vote_of rows)))
+abbrev pub rows_number : ℕ → ℕ → View → Bool → ℕ
+rows_number n f v breaks = first (rows_refusals n f v breaks)
+
+unfoldable pub selected : ℕ → ℕ → View → List Row → Result Choice Refusal
+selected n f v rows = answered (judged (rows_refusals n f v (broken n f v rows))) (Ok (selection n f (has_seat rows) (vote_of rows)))
 
 -- ---- the same, gathered one row after the other
 
@@ -137,7 +139,7 @@ abbrev pub gathered : Rows → List Row → Rows
 gathered t [] = t
 gathered t (r ∷ rs) = gathered (added t r) rs
 
-unfoldable pub selected_from : Rows → Selected
+unfoldable pub selected_from : Rows → Result Choice Refusal
 selected_from t =
-    answered (rows_number t.n t.f t.view t.broken)
-    (Selected.Chosen (selection t.n t.f (bit t.table.filled) (vote_at t.table.votes)))
+    answered (judged (rows_refusals t.n t.f t.view t.broken))
+    (Ok (selection t.n t.f (bit t.table.filled) (vote_at t.table.votes)))

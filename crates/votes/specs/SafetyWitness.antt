@@ -1,6 +1,7 @@
 -- Runs of four seats that meet every premise of `Answers`, in one view: its theorems do not hold for want of histories.
-use Rattle.std.specs.Prelude.{ℕ, zero, suc, ◌≤◌, ◌<◌, ◌≡◌, refl, Bool, true, not, cond, List, [], ◌∷◌, ◌⊎◌, T, eqb}
+use Rattle.std.specs.Prelude.{ℕ, zero, suc, ◌≤◌, ◌<◌, ◌≡◌, refl, Bool, true, not, cond, List, [], ◌∷◌, ◌⊎◌, T, eqb, Result, Ok}
 use Rattle.std.proofs.Common.{sym, subst, ◌∙◌, inl, inr, arith, lit≤}
+use Rattle.base.specs.declared.refusal.Refusal.{Refusal}
 use Rattle.entry.specs.declared.Entry.{Entry}
 use Rattle.entry.specs.Entry.{well_formed, same, less}
 use Rattle.entry.specs.Table.{entry_at, with_entry}
@@ -13,7 +14,6 @@ use Rattle.seats.specs.Certificate.{good_certificate}
 use Rattle.votes.specs.declared.Vote.{Vote}
 use Rattle.votes.specs.declared.VoteRows.{VoteRows}
 use Rattle.votes.specs.declared.Choice.{Choice}
-use Rattle.votes.specs.declared.Selected.{Selected}
 use Rattle.votes.specs.Vote.{valid}
 use Rattle.votes.specs.Selection.{smallest, top_view, two_at, rows_for, after_two, at_top, selection}
 use Rattle.votes.specs.Rows.{vote_at, has_row, chosen, no_votes, with_vote, sound, selected}
@@ -27,7 +27,7 @@ abbrev pub in_view : ℕ → View
 in_view v = record { 0 = v }
 
 -- Votes by seat, and the answer over them.
-abbrev pub answer : ℕ → List (ℕ × Vote) → Selected
+abbrev pub answer : ℕ → List (ℕ × Vote) → Result Choice Refusal
 answer v xs = selected 4 1 (in_view v) (collected v xs)
 
 -- A claim of four seats.
@@ -126,8 +126,8 @@ split_table_claims = by_seat (λ k. T (bit split_table.filled k) → Claim 4 sea
     (λ t. split_claim 0) (λ t. absurd t) (λ t. split_claim 2) (λ t. split_claim 3)
 
 -- ---- what is selected, and that it is safe
-pub selections : (answer 2 plain_votes ≡ Selected.Chosen (Choice.Forced a)) × (answer 2 split_votes ≡ Selected.Chosen (Choice.Forced a))
-    × (chosen 4 1 (in_view 2) split_table ≡ Selected.Chosen (Choice.Forced a))
+pub selections : (answer 2 plain_votes ≡ Ok (Choice.Forced a)) × (answer 2 split_votes ≡ Ok (Choice.Forced a))
+    × (chosen 4 1 (in_view 2) split_table ≡ Ok (Choice.Forced a))
 unfolding selected selection at_top after_two rows_for two_at top_view smallest sound valid good_certificate most_faulty count highest well_formed same less chosen has_row with_vote vote_at entry_at with_entry with_seat put_seat bit
 selections = (refl, refl, refl)
 

@@ -1,6 +1,6 @@
 -- 01, "The selection": its five steps, "Over valid rows, one per seat": seat k has a row, and this is its vote.
 use Rattle.std.specs.Prelude.{ℕ, zero, suc, ◌*◌, Bool, not, ◌&&◌, cond, eqb, leb, ltb}
-use Rattle.std.proofs.Math.Option.{Option, none, some}
+use Rattle.std.specs.Prelude.{Option, None, Some}
 use Rattle.entry.specs.declared.Entry.{Entry}
 use Rattle.entry.specs.Entry.{same, less}
 use Rattle.seats.specs.Seats.{leader, count, some_seat, highest}
@@ -10,17 +10,17 @@ use Rattle.votes.specs.declared.Choice.{Choice}
 
 -- The smaller of an entry and the smallest so far, bytes compared left to right, unsigned.
 abbrev pub smaller : Entry → Option Entry → Entry
-smaller e none = e
-smaller e (some b) = cond (less b e) b e
+smaller e None = e
+smaller e (Some b) = cond (less b e) b e
 
 -- The smallest entry of the seats below n that pass.
 unfoldable pub smallest : (ℕ → Bool) → (ℕ → Entry) → ℕ → Option Entry
-smallest p entry zero = none
-smallest p entry (suc n) = cond (p n) (some (smaller (entry n) (smallest p entry n))) (smallest p entry n)
+smallest p entry zero = None
+smallest p entry (suc n) = cond (p n) (Some (smaller (entry n) (smallest p entry n))) (smallest p entry n)
 
 abbrev pub forced_to : Option Entry → Choice
-forced_to none = Choice.Free
-forced_to (some x) = Choice.Forced x
+forced_to None = Choice.Free
+forced_to (Some x) = Choice.Forced x
 
 -- "at least 2f rows"
 abbrev pub support : ℕ → ℕ

@@ -16,7 +16,7 @@ use Rattle.seats.specs.Mask.{bit}
 use Rattle.votes.specs.declared.Vote.{Vote}
 use Rattle.votes.specs.declared.Row.{Row}
 use Rattle.votes.specs.declared.VoteRows.{VoteRows}
-use Rattle.votes.specs.declared.SeatRow.{SeatRow}
+use Rattle.std.specs.Prelude.{None, Some}
 use Rattle.votes.specs.declared.Choice.{Choice}
 use Rattle.votes.specs.Vote.{valid}
 use Rattle.votes.specs.VoteLaws.{valid_formed}
@@ -32,7 +32,7 @@ use Rattle.votes.specs.RequestLaws.{sends, sent_fits, sent_counts, sent_sound}
 module _ (n f : ℕ) (v : View) (t : VoteRows) where
   -- Seat k's row before the others, if it is sent.
   abbrev before : ℕ → List Row → Bool → List Row
-  before k rs b = row_list (cond b (SeatRow.Filled (row_at v t (record { 0 = k }))) SeatRow.Empty) rs
+  before k rs b = row_list (cond b (Some (row_at v t (record { 0 = k }))) None) rs
 
   -- A seat that was looked at has a row in the list where its row counts.
   sent_has : (k d j : ℕ) → k ≤ j → j < k + d → has_seat (sent_from n f v t k d) j ≡ sends n f v t j

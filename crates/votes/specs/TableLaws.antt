@@ -1,5 +1,5 @@
 -- Laws of a table of votes: what is written is read back, and nothing else changes.
-use Rattle.std.specs.Prelude.{ℕ, ◌≤◌, ◌<◌, Bool, true, false, ◌||◌, List, ◌≡◌, refl, eqb, ltb, length, set}
+use Rattle.std.specs.Prelude.{ℕ, ◌≤◌, ◌<◌, Bool, true, false, ◌||◌, ◌≡◌, refl, eqb, ltb, length, set}
 use Rattle.std.proofs.Common.{sym, ap, ◌∙◌, subst, length-set, get_or-set_same, get_or-set_other, eq-eqb, ne_eqb, lt-ltb, le-ltb, ltb-true, ltb-false}
 use Rattle.std.proofs.lemmas.List.{length-replicate}
 use Rattle.std.specs.Int.Bits.{or_zero_r, xor_zero_r}
@@ -7,19 +7,12 @@ use Rattle.entry.specs.Table.{table_words, with_entry}
 use Rattle.entry.specs.TableLaws.{at_same, at_other, with_length}
 use Rattle.seats.specs.Mask.{bit, with_seat, put_seat}
 use Rattle.seats.specs.Bits.{with_at, put_at}
+use Rattle.seats.specs.Table.{with_value}
+use Rattle.seats.specs.TableLaws.{written_within, written_past}
 use Rattle.votes.specs.declared.Vote.{Vote}
 use Rattle.votes.specs.declared.Votes.{Votes}
 use Rattle.votes.specs.declared.VoteRows.{VoteRows}
-use Rattle.votes.specs.Rows.{votes_of, table_of, vote_at, no_votes, with_number, with_vote}
-
--- ---- one number of 64
-pub number_within : (t : List ℕ) (k x : ℕ) → k < 64 → with_number t k x ≡ set t k x
-unfolding with_number
-number_within t k x h = rw (lt-ltb k 64 h)
-
-pub number_past : (t : List ℕ) (k x : ℕ) → 64 ≤ k → with_number t k x ≡ t
-unfolding with_number
-number_past t k x h = rw (le-ltb k 64 h)
+use Rattle.votes.specs.Rows.{votes_of, table_of, vote_at, no_votes, with_vote}
 
 -- ---- one vote of 64
 
@@ -54,7 +47,7 @@ abbrev pub stores : VoteRows → ℕ → Vote → VoteRows
 stores t k x =
     table_of (with_seat t.filled k)
     (votes_of (put_seat t.votes.cast k x.cast) (put_seat t.votes.verified k x.verified)
-    (with_entry t.votes.entries k x.entry) (with_number t.votes.masks k x.mask) (with_number t.votes.views k x.view.0))
+    (with_entry t.votes.entries k x.entry) (with_value t.votes.masks k x.mask) (with_value t.votes.views k x.view.0))
 
 pub stored : (t : VoteRows) (k : ℕ) (x : Vote) → stores t k x ≡ with_vote t k x
 unfolding with_seat with_entry
@@ -63,15 +56,15 @@ stored t k x = go (ltb k 64) refl
     go : (b : Bool) → ltb k 64 ≡ b → stores t k x ≡ with_vote t k x
     go true e =
         let h = ltb-true k 64 e in
-        simp (written t k x h, number_within t.votes.masks k x.mask h, number_within t.votes.views k x.view.0 h)
+        simp (written t k x h, written_within t.votes.masks k x.mask h, written_within t.votes.views k x.view.0 h)
     go false e =
         let h = ltb-false k 64 e in
         simp (
           with_past t k x h,
           put_past t.votes.cast k x.cast h,
           put_past t.votes.verified k x.verified h,
-          number_past t.votes.masks k x.mask h,
-          number_past t.votes.views k x.view.0 h,
+          written_past t.votes.masks k x.mask h,
+          written_past t.votes.views k x.view.0 h,
           e,
         )
 

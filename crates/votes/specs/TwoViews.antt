@@ -1,5 +1,5 @@
 -- A run of four seats over two views in which no premise of `Answers` is empty: what was confirmed in view 2 is selected in view 3.
-use Rattle.std.specs.Prelude.{ℕ, zero, suc, ◌≤◌, ◌<◌, ◌≡◌, refl, true, not, List, [], ◌∷◌, ◌⊎◌, T}
+use Rattle.std.specs.Prelude.{ℕ, zero, suc, ◌≤◌, ◌<◌, ◌≡◌, refl, true, not, List, [], ◌∷◌, ◌⊎◌, T, Ok}
 use Rattle.std.proofs.Common.{sym, subst₂, ◌∙◌, inl, inr, arith, lit≤}
 use Rattle.entry.specs.declared.Entry.{Entry}
 use Rattle.entry.specs.Entry.{well_formed, same, less}
@@ -9,7 +9,6 @@ use Rattle.seats.specs.Mask.{bit, seats_in}
 use Rattle.seats.specs.Certificate.{good_certificate}
 use Rattle.votes.specs.declared.Vote.{Vote}
 use Rattle.votes.specs.declared.Choice.{Choice}
-use Rattle.votes.specs.declared.Selected.{Selected}
 use Rattle.votes.specs.Vote.{valid}
 use Rattle.votes.specs.Selection.{smallest, top_view, two_at, rows_for, after_two, at_top, selection}
 use Rattle.votes.specs.Rows.{sound, selected}
@@ -97,7 +96,7 @@ claims_3 = (zero_claim 3 (lit≤ tt) (lit≤ tt), (two_claim 3 (lit≤ tt) (lit�
     }
 
 -- Two entries in view 1 leave the choice free, and then the later vote forces it.
-pub selections : (answer 2 votes_2 ≡ Selected.Chosen Choice.Free) × (answer 3 votes_3 ≡ Selected.Chosen (Choice.Forced b))
+pub selections : (answer 2 votes_2 ≡ Ok Choice.Free) × (answer 3 votes_3 ≡ Ok (Choice.Forced b))
 unfolding selected selection at_top after_two rows_for two_at top_view smallest sound valid good_certificate seats_in bit most_faulty count highest well_formed same less
 selections = (refl, refl)
 

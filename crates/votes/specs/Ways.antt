@@ -4,7 +4,7 @@ use Rattle.std.specs.Prelude.{◌≡◌, refl, Bool, true, false, not, ◌&&◌,
 use Rattle.std.proofs.Math.Path.{subst}
 use Rattle.std.proofs.Math.Bool.{cond}
 use Rattle.std.proofs.Math.Logic.{inl, inr}
-use Rattle.std.proofs.Math.Option.{Option, none, some}
+use Rattle.std.specs.Prelude.{Option, None, Some}
 use Rattle.std.proofs.Common.{arith, eqb→eq, leb→le}
 use Rattle.std.proofs.Math.Decide.{ℕ_discrete, dec_lt}
 use Rattle.std.proofs.Math.Dec.{T, T_not, not_T, eqb_refl, nltb→le, nleb→lt}
@@ -62,8 +62,8 @@ by_smallest : (P : Choice → Type 0) (p : ℕ → Bool) (e : ℕ → Entry) (n 
 by_smallest P p e n h g = go (smallest p e n) refl
   where
     go : (o : Option Entry) → smallest p e n ≡ o → P (forced_to o)
-    go none i = h (smallest_no p e n i)
-    go (some x) i = let r = smallest_some p e n x i in subst (λ y. P (Choice.Forced y)) r.3 (g r.0 r.1 r.2)
+    go None i = h (smallest_no p e n i)
+    go (Some x) i = let r = smallest_some p e n x i in subst (λ y. P (Choice.Forced y)) r.3 (g r.0 r.1 r.2)
 
 cond_at : (P : ℕ → Type 0) (b : Bool) (x : ℕ) → (T b → P x) → P 0 → P (cond b x 0)
 cond_at P true x h z = h tt

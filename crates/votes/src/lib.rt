@@ -3,17 +3,17 @@
 
 pub mod valid; // valid.rt: when a vote is valid; 64 votes
 mod search; // search.rt: what the steps look for among the rows
-pub mod steps; // steps.rt: the five steps over the leader's table
-pub mod store; // store.rt: one vote written into a table that is lent as its arrays
-pub mod request; // request.rt: the rows of a request, those that came and those that are sent
-pub mod gather; // gather.rt: tables of votes; the selection by itself, over rows gathered one by one
+mod steps; // steps.rt: the five steps over the leader's table
+mod request; // request.rt: the rows of a request, those that came and those that are sent
+mod gather; // gather.rt: tables of votes; the selection by itself, over rows gathered one by one
 pub mod slice; // slice.rt: the selection by itself, over rows that the caller lends
 
 use entry::Entry;
 use entry::table::Entries;
 use seats::{Seat, View};
 
-// nil where it is not cast; its other fields then do not count.
+// nil where it is not cast; its other fields then do not count. No Option: C keeps what stands in them and gets it back (station's
+// `replica_of`, `reads_back`).
 #[derive(Clone, Copy)]
 pub struct Vote {
     pub entry: Entry,
@@ -23,7 +23,7 @@ pub struct Vote {
     pub verified: bool,
 }
 
-// 64 votes: the flags are masks, bit k is vote k's.
+// 64 votes: the flags are masks, bit k is vote k's; one array a field, as in `Acks`.
 #[derive(Clone, Copy)]
 pub struct Votes {
     pub cast: u64,
@@ -40,7 +40,7 @@ pub struct VoteRows {
     pub votes: Votes,
 }
 
-// What a V line says, and what a request carries.
+// What a V line says, and what a request carries. Its first three are those of a Head, a type of messages, which stands on this crate.
 #[derive(Clone, Copy)]
 pub struct Row {
     pub seat: Seat,
@@ -62,23 +62,9 @@ pub struct Rows {
     table: VoteRows,
 }
 
-// A seat's row of a request.
-#[derive(Clone, Copy)]
-pub enum SeatRow {
-    Empty,
-    Filled(Row),
-}
-
 #[derive(Clone, Copy)]
 pub enum Choice {
     Wait,
     Free,
     Forced(Entry),
-}
-
-// The choice, or the number of refusal.
-#[derive(Clone, Copy)]
-pub enum Selected {
-    Refused(u8),
-    Chosen(Choice),
 }

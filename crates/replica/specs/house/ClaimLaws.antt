@@ -1,7 +1,7 @@
 -- Laws of lists whose every member passes a test, and of claims that do: in a mask, in a vote and in the rows of a leader's table.
 use Prim.Native.Nat.{ℕ, zero, suc, ◌<◌}
 use Rattle.std.proofs.Math.Path.{◌≡◌, ap}
-use Rattle.std.specs.Prelude.{refl, Bool, true, false, ◌&&◌, ◌||◌, cond, List, [], ◌∷◌, ◌++◌, ◌⊎◌, T, eqb, leb, ltb}
+use Rattle.std.specs.Prelude.{refl, Bool, true, false, ◌&&◌, ◌||◌, cond, List, [], ◌∷◌, ◌++◌, ◌⊎◌, T, eqb, leb, ltb, None, Some}
 use Rattle.std.proofs.Common.{sym, ◌∙◌, subst, inl, inr, arith, ne_eqb}
 use Rattle.std.proofs.Math.Decide.{ℕ_discrete}
 use Rattle.base.specs.Tests.{and_l, and_r, true_is, or_alone}
@@ -11,7 +11,6 @@ use Rattle.seats.specs.Seats.{leader}
 use Rattle.seats.specs.Mask.{bit, with_seat}
 use Rattle.seats.specs.Bits.{bit_zero, with_at}
 use Rattle.votes.specs.declared.Row.{Row}
-use Rattle.votes.specs.declared.SeatRow.{SeatRow}
 use Rattle.votes.specs.declared.VoteRows.{VoteRows}
 use Rattle.votes.specs.Rows.{vote_at, has_row, no_votes, with_vote}
 use Rattle.votes.specs.TableLaws.{Sized, none_sized, with_sized, filled_at, vote_same, vote_other}
@@ -185,7 +184,7 @@ module _ (P : Claim → Type 0) where
         later = sent_from m f v t (suc k) d
 
         go : (b : Bool) → (T b → Each P (in_row n row)) → Each P (in_rows n later)
-            → Each P (in_rows n (row_list (cond b (SeatRow.Filled row) SeatRow.Empty) later))
+            → Each P (in_rows n (row_list (cond b (Some row) None) later))
         go true here rest = each_both P (in_row n row) (in_rows n later) (here tt) rest
         go false here rest = rest
 

@@ -1,12 +1,10 @@
 -- Demand 3: what a correct leader asks, every correct seat in that view confirms.
-use Rattle.std.specs.Prelude.{ℕ, ◌≡◌, Bool, true, List}
+use Rattle.std.specs.Prelude.{ℕ, ◌≡◌, Bool, true, List, None, Some}
 use Rattle.std.proofs.Common.{sym, ap, ◌∙◌}
 use Rattle.std.proofs.Math.Option.{some}
 use Rattle.votes.specs.declared.Row.{Row}
 use Rattle.messages.specs.declared.Message.TheVariants.{Ask, Confirm}
 use Rattle.messages.specs.declared.Request.{Request}
-use Rattle.replica.specs.declared.Decided.{Decided}
-use Rattle.replica.specs.declared.Sent.{Sent}
 use Rattle.replica.specs.Steps.{step_of, ask_step, step}
 use Rattle.replica.specs.TidyLaws.{tidy_rows, asked_tidy}
 use Rattle.replica.specs.house.EveryRun.{run_kept}
@@ -20,8 +18,8 @@ pub confirmation : (n f : ℕ) (faulty : ℕ → Bool) → Setting n f faulty �
     → (delivered : List Row) → tidy_rows delivered ≡ tidy_rows rows
     → (k : ℕ) → Correct n faulty k → (m : Member) → h k ≡ some m → m.replica.view ≡ q.head.view
     → step m.replica (Ask q) delivered
-    ≡ step_of 0 m.replica Decided.Nothing
-    (Sent.Message (Confirm (record { head = record { seat = record { 0 = k }; verified = true; view = q.head.view }; entry = q.entry })))
+    ≡ step_of 0 m.replica None
+    (Some (Confirm (record { head = record { seat = record { 0 = k }; verified = true; view = q.head.view }; entry = q.entry })))
 confirmation n f faulty setting h run j correct-j leader at_j q rows asked delivered alike k correct-k m at-k here =
     let asker = run_kept n f faulty setting run j leader at_j in
     let seated = (run_kept n f faulty setting run k m at-k).seated in

@@ -1,6 +1,6 @@
 -- 02, Two: "Receiving found twelve blanks booked as a device." No event is taken that names an entry which is not well formed, none decides
 -- one, and no correct seat ever reports one.
-use Rattle.std.specs.Prelude.{ℕ, ◌≡◌, refl, Bool, true, false, ◌&&◌, cond, List, ◌++◌, T, eqb}
+use Rattle.std.specs.Prelude.{ℕ, ◌≡◌, refl, Bool, true, false, ◌&&◌, cond, List, ◌++◌, T, eqb, Some}
 use Rattle.std.proofs.Common.{sym, ◌∙◌, subst, eqb-true}
 use Rattle.std.proofs.lemmas.Bool.{eqb-false}
 use Rattle.base.specs.Refusal.{Refusals, first}
@@ -17,7 +17,6 @@ use Rattle.votes.specs.Formed.{formed_vote, formed_rows, vote_formed, fit_formed
 use Rattle.messages.specs.declared.Message.{Message}
 use Rattle.messages.specs.declared.Message.TheVariants.{Start, Enter, Propose, Acknowledge, Cast, Ask, Confirm}
 use Rattle.replica.specs.declared.Replica.{Replica}
-use Rattle.replica.specs.declared.Decided.{Decided}
 use Rattle.replica.specs.declared.Step.{Step}
 use Rattle.replica.specs.Ordered.{Rises, refusals_of, listed}
 use Rattle.replica.specs.Refusals.{setup_refusals}
@@ -105,7 +104,7 @@ outcome_formed (add a c) = tt
 outcome_formed (propose a c d) = tt
 
 -- No event of any replica decides an entry that is not well formed.
-pub decided_formed : (s : Replica) (m : Message) (rows : List Row) (e : Entry) → (step s m rows).decided ≡ Decided.Now e → T (well_formed e)
+pub decided_formed : (s : Replica) (m : Message) (rows : List Row) (e : Entry) → (step s m rows).decided ≡ Some e → T (well_formed e)
 decided_formed s m rows e d = (subst (λ x. Each Formed (reporting x)) d (outcome_formed (outcome s rows m))).0
 
 -- ---- what seats report

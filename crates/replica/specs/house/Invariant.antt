@@ -1,5 +1,5 @@
 -- What holds of the seats of a run, and what a step must be to keep it.
-use Rattle.std.specs.Prelude.{ℕ, ◌≤◌, ◌<◌, ◌≡◌, refl, Bool, true, false, cond, List, [], ◌++◌, ◌⊎◌, T, eqb, length}
+use Rattle.std.specs.Prelude.{ℕ, ◌≤◌, ◌<◌, ◌≡◌, refl, Bool, true, false, cond, List, [], ◌++◌, ◌⊎◌, T, eqb, length, Option as Maybe, None, Some}
 use Rattle.std.proofs.Common.{sym, subst₂, inl, inr, arith, eqb-true}
 use Rattle.std.proofs.Math.Path.{subst}
 use Rattle.std.proofs.Math.Option.{Option, none, some}
@@ -18,7 +18,6 @@ use Rattle.votes.specs.declared.Row.{Row}
 use Rattle.votes.specs.History.{Safe}
 use Rattle.messages.specs.declared.Message.{Message}
 use Rattle.replica.specs.declared.Replica.{Replica}
-use Rattle.replica.specs.declared.Sent.{Sent}
 use Rattle.replica.specs.declared.Step.{Step}
 use Rattle.replica.specs.house.Claims.{Statement, proposes, acknowledges, votes, asks, confirms, Claim, said}
 use Rattle.replica.specs.house.Runs.{Member, sending, reporting, after, Members, placed, Among, all_said, sent_by, Said, Correct}
@@ -47,14 +46,14 @@ placed_grows : (h : Members) (k : ℕ) (m : Member) → Grows (h k) (some m) →
 placed_grows h k m g = placed_all h k m (λ j o. Grows (h j) o) g (λ j. record { up = omega arith; keep = λ c a. a; old = λ k w e l a. a })
 
 -- ---- what a step says
-abbrev pub told_by : Sent → List Claim
-told_by Sent.Nothing = []
-told_by (Sent.Message m) = said m
+abbrev pub told_by : Maybe Message → List Claim
+told_by None = []
+told_by (Some m) = said m
 
 -- It comes before what was said.
-sent_said : (s : Replica) (x : Sent) (xs : List (Message × List Row)) → all_said (sending s x ++ xs) ≡ told_by x ++ all_said xs
-sent_said s Sent.Nothing xs = refl
-sent_said s (Sent.Message m) xs = refl
+sent_said : (s : Replica) (x : Maybe Message) (xs : List (Message × List Row)) → all_said (sending s x ++ xs) ≡ told_by x ++ all_said xs
+sent_said s None xs = refl
+sent_said s (Some m) xs = refl
 
 -- So nothing is taken back.
 pub said_still : (m : Member) (t : Step) (c : Claim) → Among c (all_said m.sent) → Among c (all_said (after m t).sent)

@@ -1,5 +1,5 @@
 -- Demand 3: the seats of a house, and every order of steps.
-use Rattle.std.specs.Prelude.{ℕ, ◌≤◌, ◌<◌, ◌≡◌, Bool, not, cond, List, [], ◌∷◌, ◌++◌, ◌⊎◌, T, eqb}
+use Rattle.std.specs.Prelude.{ℕ, ◌≤◌, ◌<◌, ◌≡◌, Bool, not, cond, List, [], ◌∷◌, ◌++◌, ◌⊎◌, T, eqb, Option as Maybe, None, Some}
 use Rattle.std.proofs.Math.Option.{Option, none, some}
 use Rattle.base.specs.Refusal.{first}
 use Rattle.entry.specs.declared.Entry.{Entry}
@@ -10,8 +10,6 @@ use Rattle.votes.specs.declared.Row.{Row}
 use Rattle.messages.specs.declared.Message.{Message}
 use Rattle.messages.specs.declared.Message.TheVariants.{Start, Enter, Propose, Acknowledge, Cast, Ask, Confirm}
 use Rattle.replica.specs.declared.Replica.{Replica}
-use Rattle.replica.specs.declared.Decided.{Decided}
-use Rattle.replica.specs.declared.Sent.{Sent}
 use Rattle.replica.specs.declared.Step.{Step}
 use Rattle.replica.specs.Steps.{setup_step, request_rows, step}
 use Rattle.replica.specs.house.Claims.{Claim, said, claims}
@@ -35,14 +33,14 @@ rows_beside s (Ask q) = request_rows s
 rows_beside s (Confirm c) = []
 
 -- "at most one outgoing message"
-abbrev pub sending : Replica → Sent → List (Message × List Row)
-sending s Sent.Nothing = []
-sending s (Sent.Message m) = (m, rows_beside s m) ∷ []
+abbrev pub sending : Replica → Maybe Message → List (Message × List Row)
+sending s None = []
+sending s (Some m) = (m, rows_beside s m) ∷ []
 
 -- "and possibly a decision come out": what the answer says, not what a field holds.
-abbrev pub reporting : Decided → List Entry
-reporting Decided.Nothing = []
-reporting (Decided.Now e) = e ∷ []
+abbrev pub reporting : Maybe Entry → List Entry
+reporting None = []
+reporting (Some e) = e ∷ []
 
 abbrev pub begun : Step → Member
 begun t = record { replica = t.next; sent = sending t.next t.sent; reports = reporting t.decided }

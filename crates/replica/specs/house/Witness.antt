@@ -7,9 +7,10 @@ use Rattle.entry.specs.Entry.{well_formed, same, less}
 use Rattle.entry.specs.Table.{entry_at, with_entry}
 use Rattle.seats.specs.Seats.{leader, count, highest}
 use Rattle.seats.specs.Sizes.{most_faulty}
+use Rattle.seats.specs.Table.{value_at, with_value}
 use Rattle.seats.specs.Mask.{bit, seats_in, with_seat, put_seat, packed}
 use Rattle.seats.specs.Certificate.{good_certificate}
-use Rattle.acks.specs.Acks.{view_at, with_view, row_of, with_row, shares, sharing}
+use Rattle.acks.specs.Acks.{row_of, with_row, shares, sharing}
 use Rattle.votes.specs.declared.Vote.{Vote}
 use Rattle.votes.specs.declared.Row.{Row}
 use Rattle.votes.specs.Vote.{valid}
@@ -185,7 +186,7 @@ pub witness : Decides seat_three (house 4 1 steady) 0 1 a
     × Decides seat_one (house 4 1 turned) 3 2 a × Turns seat_one (house 4 1 turned)
     × Decides seat_three (house 4 1 relayed) 2 2 a × Both seat_three (house 4 1 relayed)
 unfolding well_formed same less entry_at with_entry count highest most_faulty bit seats_in with_seat put_seat packed good_certificate
-    view_at with_view row_of with_row shares sharing
+    value_at with_value row_of with_row shares sharing
     valid smallest top_view two_at rows_for after_two at_top selection vote_at has_row with_vote sound row_at row_sent rows_sent
     number_for answered setup_step start_step enter_step propose_step decides acknowledged acknowledge_step selection_of S.collected cast_step
     ask_step certified confirm_step
@@ -237,6 +238,6 @@ witness = (
 -- `few` of `Setting` is needed: with f + 1 faulty seats, and all else as it was, two correct seats report different entries.
 pub one_too_many : (count one_and_three 4 ≡ 2) × Run 4 1 one_and_three (house 4 1 torn) × Reported (house 4 1 torn) 0 a × Reported (house 4 1 torn) 2 b
     × T (less a b)
-unfolding well_formed same less entry_at with_entry count most_faulty bit good_certificate view_at with_view row_of with_row shares sharing
+unfolding well_formed same less entry_at with_entry count most_faulty bit good_certificate value_at with_value row_of with_row shares sharing
     number_for answered setup_step propose_step decides acknowledged acknowledge_step
 one_too_many = (refl, (is_run 4 1 one_and_three torn).tells tt, inl refl, inl refl, tt)

@@ -3,11 +3,6 @@ use Rattle.text.specs.DecimalLaws.{decimal_length, width_le}
 use Rattle.messages.proofs.Writing.{field_put}
 use Rattle.messages.proofs.write.put_number.Goals as goal
 
-pub overflow_add-result-2 : goal.overflow_add-result-2
-overflow_add-result-2 c =
-    let a = c.args in
-    omega (arith, c.put_decimal-k.ensures.0, width_le a.x)
-
 pub returns : goal.returns
 returns c =
     let a = c.args in

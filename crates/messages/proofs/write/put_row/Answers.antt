@@ -11,5 +11,5 @@ pub returns : goal.returns
 returns c =
     let a = c.args in
     let x = a.x in
-    let one = become _ _ _ _ _ _ (ap (λ (y : Head). tabbed (head y [])) c.row_head.ensures) c.put_head-a.ensures.0 in
+    let one = become _ _ _ _ _ _ (ap (λ (y : Head). tabbed (head y [])) c.of.ensures) c.put_head-a.ensures.0 in
     (tabs _ _ (head (row_head x) []) _ _ (vote x.vote.cast x.vote) _ _ one c.put_vote.ensures.0, search rules)

@@ -1,7 +1,7 @@
 use mathlib.Core.Path.{◌≡◌, sym, ap}
 use mathlib.Core.List.{[], ◌∷◌}
-use mathlib.Core.Bool.{Bool, true, false}
-use borrow.Author.Tests.{not-true, not-false}
+use mathlib.Core.Bool.{Bool, true}
+use borrow.Author.Tests.{not-false}
 use Rattle.entry.specs.Hex.{entry_text}
 use Rattle.text.specs.Fields.{tabbed}
 use Rattle.text.specs.Digits.{hex}
@@ -9,13 +9,6 @@ use Rattle.messages.specs.Lines.{mark, view, vote}
 use Rattle.text.specs.PutLaws.{become, tabs}
 use borrow.Author.Rules.{rules}
 use Rattle.messages.proofs.write.put_vote.Goals as goal
-
-pub returns-then-not-x : goal.returns-then-not-x
-returns-then-not-x c =
-    let a = c.args in
-    let x = a.x in
-    let nil : x.cast ≡ false = not-true x.cast c.if-not-x.true in
-    (become _ _ _ _ _ _ (ap (λ (b : Bool). tabbed (vote b x)) (sym nil)) c.put_mark.ensures.0, search rules)
 
 pub returns : goal.returns
 returns c =

@@ -1,15 +1,19 @@
-use mathlib.Core.Path.{◌∙◌}
-use Rattle.messages.proofs.Writing.{number_room, answers}
+use Rattle.std.specs.Prelude.{Err}
+use Rattle.std.proofs.Common.{◌≡◌, sym, ◌∙◌, rules}
+use Rattle.messages.proofs.Writing.{line_put, line_refused, line_taken}
 use Rattle.messages.proofs.write.write_line.Goals as goal
 
-pub put_line_if-requires : goal.put_line_if-requires
-put_line_if-requires c =
-    let can = c.writable.result in
-    number_room can _ _ _ _ c.writer_number-number.ensures c.line_length-n.ensures
+pub returns-in_err-check_line : goal.returns-in_err-check_line
+returns-in_err-check_line c =
+    let a = c.args in
+    let why = c.in_err-check_line.field-0.0 in
+    let is : c.from_residual.result ≡ Err why = search rules in
+    let no = line_refused a.buf.now a.m _ _ why c.writable.ensures c.line_length-n.ensures (sym c.in_err-check_line.ensures) in
+    (is ∙ no.0, no.1)
 
 pub returns : goal.returns
 returns c =
     let a = c.args in
-    let e = c.line_length-n.ensures in
-    let both = answers a.buf.now a.m _ _ _ c.writable.ensures e c.writer_number-number.ensures in
-    (c.told.ensures ∙ both.0, c.put_line_if.ensures ∙ both.1)
+    let yes = line_taken a.buf.now a.m _ _ _ c.writable.ensures c.line_length-n.ensures (sym c.in_ok-check_line.ensures) in
+    let put = line_put _ a.m _ _ _ _ _ c.kind_of.ensures c.put_byte.ensures c.put_fields-end.ensures.0 c.put_byte-2.ensures yes.1.1 in
+    (yes.0, put ∙ yes.1.0)

@@ -3,7 +3,8 @@ use mathlib.Core.Path.{◌≡◌}
 use mathlib.Core.Bool.{false}
 use mathlib.Core.List.{List}
 use lib.Dec.{eqb}
-use borrow.Author.Tests.{ne_eqb}
+use borrow.Author.Tests.{tests}
+use Rattle.std.proofs.Common.{rules}
 use Rattle.entry.specs.declared.Entry.{Entry}
 use Rattle.votes.specs.declared.Vote.{Vote}
 use Rattle.messages.specs.declared.Head.{Head}
@@ -43,31 +44,30 @@ other : (kind : ℕ) (m : List ℕ) → eqb kind enter_kind ≡ false → eqb ki
 unfolding message_of
 other kind m a b c d e f = rw (a, b, c, d, e, f)
 
-pub returns-then-kind-eq69 : goal.returns-then-kind-eq69
-returns-then-kind-eq69 c =
-    enters _ _ c.head_of-h.ensures c.entry_of-e.ensures c.if-kind-eq69.true
+pub returns-in-69 : goal.returns-in-69
+returns-in-69 c =
+    enters _ _ c.head_of-head.ensures c.entry_of-entry.ensures c.in-69.is
 
-pub returns-then-kind-eq80 : goal.returns-then-kind-eq80
-returns-then-kind-eq80 c =
-    proposes _ _ c.head_of-h.ensures c.entry_of-e.ensures c.mask_of.ensures c.if-kind-eq80.true
+pub returns-in-80 : goal.returns-in-80
+returns-in-80 c =
+    proposes _ _ c.head_of-head.ensures c.entry_of-entry.ensures c.mask_of.ensures c.in-80.is
 
-pub returns-then-kind-eq65 : goal.returns-then-kind-eq65
-returns-then-kind-eq65 c =
-    acknowledges _ _ c.head_of-h.ensures c.entry_of-e.ensures c.if-kind-eq65.true
+pub returns-in-65 : goal.returns-in-65
+returns-in-65 c =
+    acknowledges _ _ c.head_of-head.ensures c.entry_of-entry.ensures c.in-65.is
 
-pub returns-then-kind-eq86 : goal.returns-then-kind-eq86
-returns-then-kind-eq86 c =
-    casts _ _ c.head_of-h.ensures c.entry_of-e.ensures c.vote_of-x.ensures c.if-kind-eq86.true
+pub returns-in-86 : goal.returns-in-86
+returns-in-86 c =
+    casts _ _ c.head_of-head.ensures c.entry_of-entry.ensures c.vote_of.ensures c.in-86.is
 
-pub returns-then-kind-eq81 : goal.returns-then-kind-eq81
-returns-then-kind-eq81 c =
-    asks _ _ c.head_of-h.ensures c.entry_of-e.ensures c.count_of.ensures c.if-kind-eq81.true
+pub returns-in-81 : goal.returns-in-81
+returns-in-81 c =
+    asks _ _ c.head_of-head.ensures c.entry_of-entry.ensures c.count_of.ensures c.in-81.is
 
-pub returns-then-kind-eq67 : goal.returns-then-kind-eq67
-returns-then-kind-eq67 c =
-    confirms _ _ c.head_of-h.ensures c.entry_of-e.ensures c.if-kind-eq67.true
+pub returns-in-67 : goal.returns-in-67
+returns-in-67 c =
+    confirms _ _ c.head_of-head.ensures c.entry_of-entry.ensures c.in-67.is
 
-pub returns : goal.returns
-returns c =
-    other _ _ (ne_eqb _ _ c.if-kind-eq69.false) (ne_eqb _ _ c.if-kind-eq80.false) (ne_eqb _ _ c.if-kind-eq65.false)
-    (ne_eqb _ _ c.if-kind-eq86.false) (ne_eqb _ _ c.if-kind-eq81.false) (ne_eqb _ _ c.if-kind-eq67.false)
+pub returns-in_default : goal.returns-in_default
+returns-in_default c =
+    other _ _ (search (rules, tests)) (search (rules, tests)) (search (rules, tests)) (search (rules, tests)) (search (rules, tests)) (search (rules, tests))

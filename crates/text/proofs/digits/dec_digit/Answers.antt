@@ -1,17 +1,13 @@
 use native.Mathlib.Omega.{arith}
-use borrow.Author.Tests.{lt-ltb, le-ltb}
-use Rattle.text.specs.Digits.{dec_digit}
-use borrow.Author.Rules.{rules}
+use Rattle.std.proofs.Common.{inl, inr}
+use Rattle.text.proofs.Reading.{dec_is, dec_none}
 use Rattle.text.proofs.digits.dec_digit.Goals as goal
 
-pub returns-then-x-lt48 : goal.returns-then-x-lt48
-unfolding dec_digit
-returns-then-x-lt48 c = (simp (lt-ltb _ _ c.if-x-lt48.true), search rules)
+pub returns-in-48-to-57 : goal.returns-in-48-to-57
+returns-in-48-to-57 c = dec_is _ (omega arith) (omega arith)
 
-pub returns-then-x-gt57 : goal.returns-then-x-gt57
-unfolding dec_digit
-returns-then-x-gt57 c = (simp (le-ltb _ _ c.if-x-lt48.false, lt-ltb _ _ c.if-x-gt57.true), search rules)
+pub returns-in_default : goal.returns-in_default
+returns-in_default c = dec_none _ (inl (omega arith))
 
-pub returns : goal.returns
-unfolding dec_digit
-returns c = (simp (le-ltb _ _ c.if-x-lt48.false, le-ltb _ _ c.if-x-gt57.false), omega arith)
+pub returns-in_default-2 : goal.returns-in_default-2
+returns-in_default-2 c = dec_none _ (inr (omega arith))

@@ -1,9 +1,12 @@
-use mathlib.Core.Path.{sym}
-use Rattle.text.proofs.Reading.{letter_not, letter_is}
+use native.Mathlib.Omega.{arith}
+use Rattle.text.proofs.Reading.{letter_is, letter_not}
 use Rattle.text.proofs.digits.letter.Goals as goal
 
-pub returns-then-t-ne1 : goal.returns-then-t-ne1
-returns-then-t-ne1 c = sym (letter_not c.args.t.now c.if-t-ne1.true)
+pub returns-in-len1 : goal.returns-in-len1
+returns-in-len1 c = letter_is _ (omega arith)
 
-pub returns : goal.returns
-returns c = sym (letter_is c.args.t.now c.if-t-ne1.false)
+pub returns-in_default : goal.returns-in_default
+returns-in_default c = letter_not _ (λ e. omega arith)
+
+pub returns-in_default-2 : goal.returns-in_default-2
+returns-in_default-2 c = letter_not _ (λ e. omega arith)

@@ -1,17 +1,10 @@
-use Rattle.text.specs.FieldEnds.{end_le, up_take, field_out}
+use Rattle.text.specs.FieldEnds.{end_le, up_take}
 use Rattle.text.specs.Fields.{field_at}
 use Prim.Native.Nat.{ℕ, ◌≤◌, ◌-◌}
 use mathlib.Core.Path.{◌≡◌, sym, ap, ◌∙◌, subst}
 use lib.ListN.{length, drop, take}
-use native.Mathlib.Nat.{le_of_lt, sub_self}
 use native.Mathlib.Omega.{arith}
 use Rattle.text.proofs.field.field_of.Goals as goal
-
-pub returns-then-n-from : goal.returns-then-n-from
-returns-then-n-from c =
-    let a = c.args in
-    ap (λ (k : ℕ). take k (drop (length a.s.now) a.s.now)) (sub_self (length a.s.now))
-    ∙ sym (field_out a.s.now a.from (le_of_lt c.if-n-from.true))
 
 pub slice_bounds-result-end-2 : goal.slice_bounds-result-end-2
 slice_bounds-result-end-2 c =

@@ -1,9 +1,7 @@
 use Prim.Native.Nat.{ℕ, ◌-◌, ◌+◌}
 use mathlib.Core.Path.{◌≡◌, sym, ap, ◌∙◌}
 use native.Mathlib.Omega.{arith}
-use lib.Seq.{sets}
 use Rattle.text.specs.Digits.{digits, dec_char, decimal, width}
-use Rattle.text.specs.DigitLaws.{digits_length}
 use Rattle.text.specs.DecimalLaws.{decimal_length}
 use Rattle.text.proofs.Putting.{Left, left_all, left_out, left_same, decimal_last}
 use Rattle.std.proofs.Common.{not}
@@ -29,10 +27,6 @@ all_left c =
     let long = decimal_length a.v ∙ sym k.ensures in
     left_all a.s.now a.at (decimal a.v) k.result r.result long r.ensures (ap not c.if-not-has_room.false)
 
-pub overflow_add-i : goal.overflow_add-i
-overflow_add-i c =
-    omega (arith, (all_left (goal.at.overflow_add-i c).Else-not-has_room).fits, decimal_length c.args.v, c.width-k.ensures)
-
 pub loop-i-init : goal.loop-i-init
 unfolding decimal
 loop-i-init c =
@@ -42,23 +36,8 @@ loop-i-init c =
     let is = ap (λ (k : ℕ). digits 10 dec_char k a.v) n in
     (omega arith, left_same a.s.now a.at (decimal a.v) a.s.now a.at (decimal a.v) _ is (all_left (goal.at.loop-i-init c).Else-not-has_room))
 
-pub bounds-s-i : goal.bounds-s-i
-bounds-s-i c =
-    let l = c.loop-i in
-    let p = c.args.at in
-    omega (arith, l.invariant.0, l.invariant.1.fits, digits_length 10 dec_char (l.i - p) l.rest)
-
 pub loop-i-preserved : goal.loop-i-preserved
 loop-i-preserved c =
     let a = c.args in
     let l = c.loop-i in
     (omega arith, decimal_last a.s.now a.at (decimal a.v) l.s l.i l.rest c.loop-i-test.true l.invariant.1)
-
-pub returns : goal.returns
-returns c =
-    let a = c.args in
-    let l = c.loop-i in
-    let z : l.i - a.at ≡ 0 = omega arith in (
-      c.width-k.ensures,
-      ap (λ (k : ℕ). sets l.s a.at (digits 10 dec_char k l.rest)) (sym z) ∙ l.invariant.1.bytes,
-    )

@@ -6,6 +6,3 @@ use Rattle.text.proofs.put.put_decimal.Given as goal
 
 abbrev pub invariant-loop-i : goal.invariant-loop-i
 invariant-loop-i l = (l.at ≤ l.i) × Left l.initial.s l.at (decimal l.v) l.s l.at (digits 10 dec_char (l.i - l.at) l.rest)
-
-abbrev pub decreases-loop-i : goal.decreases-loop-i
-decreases-loop-i l = l.i

@@ -1,10 +1,7 @@
 use native.Mathlib.Omega.{arith}
 use Rattle.transcript.proofs.Lengths.{digits_few}
-use Rattle.transcript.proofs.Printing.{no_room, whole_put, refusal_put}
+use Rattle.transcript.proofs.Printing.{whole_put, refusal_put}
 use Rattle.transcript.proofs.begin.put_refusal.Goals as goal
-
-pub returns-then-out-lt-ROOM : goal.returns-then-out-lt-ROOM
-returns-then-out-lt-ROOM c = no_room c.args.out.now _ c.if-out-lt-ROOM.true
 
 pub overflow_add-k : goal.overflow_add-k
 overflow_add-k c = omega (arith, digits_few _ _ c.put_decimal-k.ensures.0)

@@ -1,10 +1,9 @@
 -- What is known at the places from which the loop goes on.
-use Rattle.std.proofs.Common.{◌≡◌, ℕ, ◌+◌, ◌-◌, ◌≤◌, Bool, true, false, cond, List, [], length, take, drop, refl, sym, ap, ◌∙◌, arith, rules}
+use Rattle.std.proofs.Common.{◌≡◌, ℕ, ◌+◌, ◌-◌, ◌≤◌, Bool, true, false, cond, List, [], length, take, drop, refl, sym, ap, ◌∙◌, arith, rules, Option}
 use mir.Syntax.{w32}
 use mir.Val.{to_z, of_z}
 use Rattle.text.specs.Put.{Puts}
 use Rattle.text.specs.PutLaws.{puts_nothing}
-use Rattle.messages.specs.declared.read.Line.{Line}
 use Rattle.replica.specs.declared.Step.{Step}
 use Rattle.replica.specs.Steps.{step_of, request_rows}
 use Rattle.transcript.specs.Rooms.{rows_room, line_room}
@@ -18,20 +17,21 @@ use Rattle.transcript.proofs.Meeting.{Made, unread_made, heard_made, acknowledge
 use Rattle.transcript.proofs.Stepping.{standing, steps, put_printed, waits}
 use Rattle.transcript.proofs.Turns.{Going, going_on, going_full, going_out}
 use Rattle.transcript.proofs.feed.feed.Goals as goal
-use Rattle.transcript.proofs.feed.feed.Goals.{Else-end-eq0, Joined-event, Joined-event-2, After-put_event-put}
-use Rattle.transcript.proofs.feed.feed.Goals.{in-Row, in-Opened, in_default}
-use Rattle.transcript.proofs.feed.feed.Goals.{in-Unread, in-Heard+in-Acknowledge+then-number-eq0, in-Heard+in-Acknowledge+else-number-eq0, in-Heard+in-Cast, in-Heard+in-Propose, in-Heard+in-Confirm, in-Heard+in-Enter, in-Heard+in-Start, in-Heard+in-Ask, in_default-event}
+use Rattle.transcript.proofs.feed.feed.Goals.{In-Some, Joined-event, Joined-event-2, After-put_event-put}
+use Rattle.transcript.proofs.feed.feed.Goals.{in-Row, in-Opened, in_default-event}
+use Rattle.transcript.proofs.feed.feed.Goals.{in-Unread, in-Heard+in-Acknowledge+then-number-eq0, in-Heard+in-Acknowledge+else-number-eq0, in-Heard+in-Cast, in-Heard+in-Propose, in-Heard+in-Confirm, in-Heard+in-Enter, in-Heard+in-Start, in-Heard+in-Ask, in_default-event-2}
+use Rattle.messages.specs.declared.Message.{Message}
 
 -- ---- what stands there
 
 -- The state where a line begins, and the line.
-abbrev present : Else-end-eq0 → State
+abbrev present : In-Some → State
 present c =
     standing c.loop-put.events (to_z w32 c.loop-put.margin-bits) c.loop-put.left c.loop-put.spoiled c.loop-put.cut c.loop-put.request
     c.loop-put.replica c.loop-put.rows
 
-abbrev line_at : Else-end-eq0 → List ℕ
-line_at c = take (c.behind_line-end.result - c.loop-put.at) (drop c.loop-put.at c.args.s.now)
+abbrev line_at : In-Some → List ℕ
+line_at c = take (c.in-Some.end - c.loop-put.at) (drop c.loop-put.at c.args.s.now)
 
 -- The step of the line's event.
 abbrev step_at : Joined-event-2 → Step
@@ -51,14 +51,13 @@ next c =
 -- ---- what is known there
 
 -- The line was found.
-found : (c : Else-end-eq0) → LineAt c.args.s.now c.loop-put.at c.behind_line-end.result
+found : (c : In-Some) → LineAt c.args.s.now c.loop-put.at c.in-Some.end
 found c =
-    line_found c.args.s.now c.loop-put.at c.behind_line-end.result c.behind_line-end.ensures (omega (arith, c.if-end-eq0.false))
-    c.loop-put.invariant.inside
+    line_found c.args.s.now c.loop-put.at c.in-Some.end (sym c.in-Some.is ∙ c.behind_line.ensures) c.loop-put.invariant.inside
 
 -- What it is.
-sorts : (c : Joined-event) → c.sort-sorted.result ≡ sort_in (present (goal.at.Joined-event c).Else-end-eq0) (line_at (goal.at.Joined-event c).Else-end-eq0)
-sorts c = c.sort-sorted.ensures ∙ ap (λ (l : Line). sorted l c.loop-put.left c.loop-put.spoiled) c.read_unless-line.ensures
+sorts : (c : Joined-event) → c.sort-sorted.result ≡ sort_in (present (goal.at.Joined-event c).In-Some) (line_at (goal.at.Joined-event c).In-Some)
+sorts c = c.sort-sorted.ensures ∙ ap (λ (l : Option Message). sorted l c.loop-put.left c.loop-put.spoiled) c.read_unless-line.ensures
 
 -- The arms for rows and requests met.
 took : (c : Joined-event)
@@ -68,7 +67,7 @@ took c =
     elim c.match-event.branch [
       | in-Row w ↦ asked_taken w.in-Row.is w.event-is w.request-is (w.rows-is ∙ w.add-rows.ensures)
       | in-Opened w ↦ asked_taken w.in-Opened.is w.event-is w.request-is (w.rows-is ∙ w.none-rows.ensures)
-      | in_default w ↦ alone_taken w.in_default.not-Row w.in_default.not-Opened w.event-is w.request-is w.rows-is
+      | in_default-event w ↦ alone_taken w.in_default-event.not-Row w.in_default-event.not-Opened w.event-is w.request-is w.rows-is
     ]
 
 -- The arms for events met: one that is none, A taken and refused, V, P, C, E, S, a Q that is none, and the request that is due.
@@ -100,8 +99,8 @@ made c =
           heard_made w.in-Heard.is w.in-Start.is refl w.start_step-t.ensures w.replica-is w.margin-is w.number-is w.decided-is w.sent-is
       | in-Heard+in-Ask w ↦
           unread_made (w.in-Heard.is ∙ ap Event.Heard w.in-Ask.is) refl refl w.replica-is w.margin-is w.number-is w.decided-is w.sent-is
-      | in_default-event w ↦
-          asked_made w.in_default-event.not-Unread w.in_default-event.not-Heard w.ask_step-t.ensures w.replica-is w.margin-is w.number-is
+      | in_default-event-2 w ↦
+          asked_made w.in_default-event-2.not-Unread w.in_default-event-2.not-Heard w.ask_step-t.ensures w.replica-is w.margin-is w.number-is
           w.decided-is w.sent-is
     ]
 
@@ -109,9 +108,9 @@ made c =
 goes : (c : After-put_event-put) (asks : Bool) (r : ℕ) (after : List ℕ) → sends_ask c.match-event-2.sent ≡ asks
     → Puts c.put_event-put.new.s c.put_event-put.result (cond asks (row_lines (request_rows c.match-event-2.replica)) []) r after
     → r ≤ c.put_event-put.result + rows_room
-    → Going (first c) c.args.s.now c.args.out.now (next c) c.behind_line-end.result r after
+    → Going (first c) c.args.s.now c.args.out.now (next c) c.in-Some.end r after
 goes c asks r after is rows short =
-    let l = (goal.at.After-put_event-put c).Else-end-eq0 in
+    let l = (goal.at.After-put_event-put c).In-Some in
     let m = (goal.at.After-put_event-put c).Joined-event in
     let e = (goal.at.After-put_event-put c).Joined-event-2 in
     let room = c.loop-put-test.true in
@@ -123,21 +122,21 @@ goes c asks r after is rows short =
 -- ---- the goals
 
 pub slice_bounds-read_unless-count : goal.slice_bounds-read_unless-count
-slice_bounds-read_unless-count c = omega (arith, (found (goal.at.slice_bounds-read_unless-count c).Else-end-eq0).some)
+slice_bounds-read_unless-count c = omega (arith, (found (goal.at.slice_bounds-read_unless-count c).In-Some).some)
 
 pub slice_bounds-read_unless-start : goal.slice_bounds-read_unless-start
-slice_bounds-read_unless-start c = omega (arith, (found (goal.at.slice_bounds-read_unless-start c).Else-end-eq0).some)
+slice_bounds-read_unless-start c = omega (arith, (found (goal.at.slice_bounds-read_unless-start c).In-Some).some)
 
 pub slice_bounds-read_unless-end : goal.slice_bounds-read_unless-end
-slice_bounds-read_unless-end c = omega (arith, (found (goal.at.slice_bounds-read_unless-end c).Else-end-eq0).fits)
+slice_bounds-read_unless-end c = omega (arith, (found (goal.at.slice_bounds-read_unless-end c).In-Some).fits)
 
 pub loop-put-smaller-then-left-gt0 : goal.loop-put-smaller-then-left-gt0
 loop-put-smaller-then-left-gt0 c =
-    let l = found (goal.at.loop-put-smaller-then-left-gt0 c).Else-end-eq0 in omega (arith, l.some, l.fits)
+    let l = found (goal.at.loop-put-smaller-then-left-gt0 c).In-Some in omega (arith, l.some, l.fits)
 
 pub loop-put-preserved-then-left-gt0 : goal.loop-put-preserved-then-left-gt0
 loop-put-preserved-then-left-gt0 c =
-    let l = (goal.at.loop-put-preserved-then-left-gt0 c).Else-end-eq0 in
+    let l = (goal.at.loop-put-preserved-then-left-gt0 c).In-Some in
     let m = (goal.at.loop-put-preserved-then-left-gt0 c).Joined-event in
     let room = c.loop-put-test.true in
     let w = waits (present l) (line_at l) (sorts m) (took m) c.if-left-gt0.true in
@@ -154,7 +153,7 @@ put_rows-put-requires c =
     (made_sized (made (goal.at.put_rows-put-requires c).Joined-event-2) asks, room)
 
 pub loop-put-smaller-then-asks : goal.loop-put-smaller-then-asks
-loop-put-smaller-then-asks c = let l = found (goal.at.loop-put-smaller-then-asks c).Else-end-eq0 in omega (arith, l.some, l.fits)
+loop-put-smaller-then-asks c = let l = found (goal.at.loop-put-smaller-then-asks c).In-Some in omega (arith, l.some, l.fits)
 
 pub loop-put-preserved-then-asks : goal.loop-put-preserved-then-asks
 loop-put-preserved-then-asks c =
@@ -163,7 +162,7 @@ loop-put-preserved-then-asks c =
     goes (goal.at.loop-put-preserved-then-asks c).After-put_event-put true rows.result rows.new.s asks rows.ensures.0 rows.ensures.1
 
 pub loop-put-smaller : goal.loop-put-smaller
-loop-put-smaller c = let l = found (goal.at.loop-put-smaller c).Else-end-eq0 in omega (arith, l.some, l.fits)
+loop-put-smaller c = let l = found (goal.at.loop-put-smaller c).In-Some in omega (arith, l.some, l.fits)
 
 pub loop-put-preserved : goal.loop-put-preserved
 loop-put-preserved c =
@@ -177,8 +176,8 @@ returns-after-loop-put c =
     let back : to_z w32 (of_z w32 st.margin) ≡ st.margin = search rules in
     rw back at (going_full c.loop-put.invariant c.loop-put-test.false)
 
-pub returns-then-end-eq0 : goal.returns-then-end-eq0
-returns-then-end-eq0 c =
+pub returns-in_default : goal.returns-in_default
+returns-in_default c =
     let st = c.args.state in
     let back : to_z w32 (of_z w32 st.margin) ≡ st.margin = search rules in
-    rw back at (going_out c.loop-put.invariant (line_missing c.args.s.now c.loop-put.at (sym c.behind_line-end.ensures ∙ c.if-end-eq0.true)))
+    rw back at (going_out c.loop-put.invariant (line_missing c.args.s.now c.loop-put.at (sym c.behind_line.ensures ∙ c.in_default.is)))

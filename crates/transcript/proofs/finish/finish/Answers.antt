@@ -4,13 +4,10 @@ use lib.ListN.{length}
 use mir.Val.{to_z, of_z}
 use mir.Syntax.{w32}
 use Rattle.text.specs.PutLaws.{puts_nothing, become}
-use Rattle.transcript.proofs.Printing.{no_room, whole_put, last_none, last_event_lem}
+use Rattle.transcript.proofs.Printing.{whole_put, last_none, last_event_lem}
 use borrow.Author.Rules.{rules}
 use Rattle.std.proofs.Common.{not}
 use Rattle.transcript.proofs.finish.finish.Goals as goal
-
-pub returns-then-out-lt-ROOM : goal.returns-then-out-lt-ROOM
-returns-then-out-lt-ROOM c = no_room c.args.out.now _ c.if-out-lt-ROOM.true
 
 pub returns-then-not-more-state : goal.returns-then-not-more-state
 returns-then-not-more-state c =

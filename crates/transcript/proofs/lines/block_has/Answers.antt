@@ -1,6 +1,6 @@
 use Prim.Native.Nat.{◌+◌}
 use mathlib.Core.Bool.{Bool, ◌||◌}
-use mathlib.Core.Path.{◌≡◌, refl, sym, ap, ◌∙◌}
+use mathlib.Core.Path.{refl, sym, ap, ◌∙◌}
 use native.Mathlib.Numerals.{add-one}
 use native.Mathlib.Omega.{arith}
 use lib.ListN.{get_or}
@@ -13,9 +13,6 @@ pub loop-i-init : goal.loop-i-init
 unfolding has_lf
 loop-i-init c = (omega arith, refl)
 
-pub loop-i-smaller : goal.loop-i-smaller
-loop-i-smaller c = omega arith
-
 pub loop-i-preserved : goal.loop-i-preserved
 unfolding has_lf
 loop-i-preserved c =
@@ -23,10 +20,3 @@ loop-i-preserved c =
     let a = c.args in
     let found = eqb (get_or a.s.now (a.at + l.i) 0) lf in
     (omega arith, ap (λ (b : Bool). b || found) l.invariant.1 ∙ ap (has_lf a.s.now a.at) (sym (add-one l.i)))
-
-pub returns : goal.returns
-returns c =
-    let l = c.loop-i in
-    let a = c.args in
-    let all : l.i ≡ 16 = omega arith in
-    l.invariant.1 ∙ ap (has_lf a.s.now a.at) all

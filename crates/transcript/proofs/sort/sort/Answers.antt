@@ -7,6 +7,6 @@ pub returns-then-left-gt0 : goal.returns-then-left-gt0
 unfolding sorted
 returns-then-left-gt0 c = c.sort_row.ensures ∙ sym (simp (lt-ltb 0 c.args.left c.if-left-gt0.true))
 
-pub returns : goal.returns
+pub returns-else-left-gt0 : goal.returns-else-left-gt0
 unfolding sorted
-returns c = c.sort_line.ensures ∙ sym (simp (le-ltb 0 c.args.left c.if-left-gt0.false))
+returns-else-left-gt0 c = c.sort_line.ensures ∙ sym (simp (le-ltb 0 c.args.left c.if-left-gt0.false))

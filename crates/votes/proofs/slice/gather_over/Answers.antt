@@ -1,4 +1,4 @@
-use Rattle.std.proofs.Common.{◌≡◌, ℕ, ◌+◌, ◌<◌, length, List, [], ◌∷◌, ◌++◌, get_or, take, refl, sym, ap, ◌∙◌, false, arith, add-one}
+use Rattle.std.proofs.Common.{◌≡◌, ℕ, ◌+◌, ◌<◌, length, List, [], ◌∷◌, ◌++◌, get_or, take, refl, sym, ap, ◌∙◌, false, add-one}
 use Rattle.std.proofs.Math.Seq.{take-suc}
 use Rattle.votes.specs.declared.Row.{Row}
 use Rattle.votes.specs.declared.Rows.{Rows}
@@ -16,7 +16,7 @@ one_more : (t : Rows) (rs : List Row) (i : ℕ) → i < length rs → added (gat
 one_more t rs i h =
     sym (ap (λ (k : ℕ). gathered t (take k rs)) (add-one i) ∙ ap (gathered t) (take-suc rs i no_row h) ∙ gathered_snoc t (take i rs) (get_or rs i no_row))
 
-pub loop-i-preserved : goal.loop-i-preserved
-loop-i-preserved c =
-    let l = c.loop-i in
-    (omega arith, c.add-t.ensures ∙ ap (λ (t : Rows). added t (get_or c.args.rows.now l.i no_row)) l.invariant.1 ∙ one_more _ c.args.rows.now l.i c.loop-i-test.true)
+pub loop-row-preserved : goal.loop-row-preserved
+loop-row-preserved c =
+    let l = c.loop-row in
+    c.add-t.ensures ∙ ap (λ (t : Rows). added t (get_or c.args.rows.now l.row-index no_row)) l.invariant ∙ one_more _ c.args.rows.now l.row-index c.loop-row-test.true

@@ -1,10 +1,7 @@
--- The rows before i are gathered.
-use Rattle.std.proofs.Common.{◌≡◌, ◌≤◌, ◌-◌, length, take}
+-- The rows so far are gathered.
+use Rattle.std.proofs.Common.{◌≡◌, take}
 use Rattle.votes.specs.Rows.{no_rows, gathered}
 use Rattle.votes.proofs.slice.gather_over.Given as goal
 
-abbrev pub invariant-loop-i : goal.invariant-loop-i
-invariant-loop-i l = (l.i ≤ length l.rows) × (l.t ≡ gathered (no_rows l.n l.f l.fn.v) (take l.i l.rows))
-
-abbrev pub decreases-loop-i : goal.decreases-loop-i
-decreases-loop-i l = length l.rows - l.i
+abbrev pub invariant-loop-row : goal.invariant-loop-row
+invariant-loop-row l = l.t ≡ gathered (no_rows l.n l.f l.fn.v) (take l.row-index l.rows)

@@ -1,6 +1,0 @@
-use mathlib.Core.Path.{ap, ◌∙◌}
-use Rattle.replica.specs.Steps.{answer_of}
-use Rattle.replica.proofs.Replica.enter.Goals as goal
-
-pub returns : goal.returns
-returns c = c.answer.ensures ∙ ap answer_of c.enter_step-t.ensures

@@ -1,4 +1,0 @@
-use Rattle.replica.proofs.numbers.leads.Goals as goal
-
-pub returns : goal.returns
-returns c = simp c.leader-l.ensures

@@ -1,4 +1,0 @@
-use Rattle.replica.proofs.parts.proposal_of.Goals as goal
-
-pub returns : goal.returns
-returns c = simp c.head_of.ensures
