@@ -8,9 +8,6 @@ use Rattle.entry.specs.declared.Entry.{Entry}
 use Rattle.entry.specs.Entry.{same, less}
 use Rattle.entry.specs.Laws.{same_words, less_words}
 
-pub derived_same : (a b : Entry) → equal.ghosts.eq a b ≡ same a b
-derived_same a b = sym (same_words a b)
-
 -- Two words compared, then the next two.
 pairs : (a b c d : Bool) → is_some_and is_lt (partial_ordering_then (Some (cond a Less (cond b Equal Greater))) (Some (cond c Less (cond d Equal Greater)))) ≡ (a || (b && c))
 pairs true b c d = refl
@@ -21,3 +18,6 @@ pairs false false c d = refl
 
 pub derived_less : (a b : Entry) → partial_lt order.ghosts.partial_cmp a b ≡ less a b
 derived_less a b = pairs (ltb a.hi b.hi) (eqb a.hi b.hi) (ltb a.lo b.lo) (eqb a.lo b.lo) ∙ sym (less_words a b)
+
+pub derived_same : (a b : Entry) → equal.ghosts.eq a b ≡ same a b
+derived_same a b = sym (same_words a b)

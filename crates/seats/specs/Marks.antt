@@ -29,7 +29,33 @@ packed_lt p k (suc d) =
     let q : 2 ^ suc d ≡ 2 ^ d * 2 = pow-suc 2 d in
     omega (arith, byte_le (p k))
 
--- ---- a loop that goes down: m = 2 * m + u64::from(test(i)), whatever the test tells of a seat
+-- ---- a loop that goes down: m = 2 * m + u64::from(test(i))
+module _ (p : ℕ → Bool) (n : ℕ) where
+  pub packed_none : (i : ℕ) → i ≡ n → 0 ≡ packed p i (n - i)
+  unfolding packed
+  packed_none i e = let z : n - i ≡ 0 = omega arith in sym (ap (packed p i) z)
+
+  packed_more : (i m : ℕ) → 0 < i → i ≤ n → m ≡ packed p i (n - i) → 2 * m + bool_byte (p (i - 1)) ≡ packed p (i - 1) (n - (i - 1))
+  unfolding packed
+  packed_more i m h l e =
+      let a : n - (i - 1) ≡ suc (n - i) = omega arith in
+      let b : suc (i - 1) ≡ i = omega arith in
+      let c : packed p (i - 1) (n - (i - 1)) ≡ bool_byte (p (i - 1)) + 2 * packed p (suc (i - 1)) (n - i) = ap (packed p (i - 1)) a in
+      let d : packed p (suc (i - 1)) (n - i) ≡ packed p i (n - i) = ap (λ x. packed p x (n - i)) b in
+      omega arith
+
+  -- One seat more, of the flag that the code has, and it still fits.
+  pub packed_step : (i m : ℕ) → 0 < i → i ≤ n → n ≤ 64 → m ≡ packed p i (n - i) → (b : Bool) → b ≡ p (i - 1)
+      → (2 * m + bool_byte b ≡ packed p (i - 1) (n - (i - 1))) × (2 * m + bool_byte b < 2 ^ 64)
+  packed_step i m h l q e b eb =
+      let more : 2 * m + bool_byte b ≡ packed p (i - 1) (n - (i - 1)) = ap (λ x. 2 * m + bool_byte x) eb ∙ packed_more i m h l e in
+      let few : n - (i - 1) ≤ 64 = omega arith in
+      (more, subst (λ x. x < 2 ^ 64) (sym more) (lt_of_lt_of_le (packed_lt p (i - 1) (n - (i - 1))) (pow_mono few)))
+
+  pub packed_all : (i m : ℕ) → i ≤ 0 → m ≡ packed p i (n - i) → m ≡ mask p n
+  packed_all i m h e = let z : i ≡ 0 = omega arith in let w : n - 0 ≡ n = omega arith in e ∙ ap (λ x. packed p x (n - x)) z ∙ ap (packed p 0) w
+
+-- The same whatever the test tells of a seat.
 abbrev pub Tells : (ℕ → Bool → Type 0) → (ℕ → Bool) → ℕ → Type 0
 Tells told p n = (k : ℕ) (b : Bool) → k < n → told k b → b ≡ p k
 
@@ -41,10 +67,7 @@ module _ (told : ℕ → Bool → Type 0) (n : ℕ) where
     pub is : (p : ℕ → Bool) → Tells told p n → m ≡ packed p i (n - i)
 
   pub packing_begin : (i : ℕ) → i ≡ n → Packing i 0
-  unfolding packed
-  packing_begin i e =
-      let z : n - i ≡ 0 = omega arith in
-      record { within = omega arith; small = pow_pos (n - i); is = λ p t. sym (ap (packed p i) z) }
+  packing_begin i e = record { within = omega arith; small = pow_pos (n - i); is = λ p t. packed_none p n i e }
 
   -- One seat more, of the flag that the test gives, and it still fits.
   module _ (i m : ℕ) (h : 0 < i) (le : n ≤ 64) (k : Packing i m) where
@@ -68,28 +91,18 @@ module _ (told : ℕ → Bool → Type 0) (n : ℕ) where
       packing_fits = omega (arith, next_fits b)
 
       pub packing_next : told (i - 1) b → Packing (i - 1) (2 * m + x)
-      unfolding packed
       packing_next s =
           let l = k.within in
           record {
             within = omega arith;
             small = subst (λ y. 2 * m + y < 2 ^ (n - (i - 1))) (sym e) (next b);
             is = λ p t.
-                let was = k.is p t in
                 let here : b ≡ p (i - 1) = t (i - 1) b (omega arith) s in
-                let byte : x ≡ bool_byte (p (i - 1)) = e ∙ ap bool_byte here in
-                let a : n - (i - 1) ≡ suc (n - i) = omega arith in
-                let j : suc (i - 1) ≡ i = omega arith in
-                let c : packed p (i - 1) (n - (i - 1)) ≡ bool_byte (p (i - 1)) + 2 * packed p (suc (i - 1)) (n - i) = ap (packed p (i - 1)) a in
-                let d : packed p (suc (i - 1)) (n - i) ≡ packed p i (n - i) = ap (λ y. packed p y (n - i)) j in
-                omega arith;
+                ap (λ y. 2 * m + y) e ∙ (packed_step p n i m h l le (k.is p t) b here).0;
           }
 
   pub packing_end : (i m : ℕ) → i ≤ 0 → Packing i m → (p : ℕ → Bool) → Tells told p n → m ≡ mask p n
-  packing_end i m h k p t =
-      let z : i ≡ 0 = omega arith in
-      let w : n - 0 ≡ n = omega arith in
-      k.is p t ∙ ap (λ x. packed p x (n - x)) z ∙ ap (packed p 0) w
+  packing_end i m h k p t = packed_all p n i m h (k.is p t)
 
 -- ---- its bits
 half_is : (b : Bool) (x : ℕ) → (bool_byte b + 2 * x) / 2 ≡ x

@@ -57,12 +57,15 @@ impl Input {
         }
     }
 
-    // What is left goes to the front.
+    // What is left goes to the front. A line that is not over yet is there already: it is read on where it is.
     fn shift(&mut self)
         ensures { (self.new.at ≡ 0) × (self.new.end ≡ self.old.end - self.old.at) × (self.new.buf ≡ lent self.old.buf (in_window self.old.at self.old.end self.old.buf)) }
     {
         let at = self.at;
         let end = self.end;
+        if at == 0 {
+            return;
+        }
         self.buf.copy_within(at..end, 0);
         self.at = 0;
         self.end = end - at;

@@ -2,9 +2,10 @@
 use Rattle.std.specs.Prelude.{ℕ, Bool, true, false, not, cond, [], ◌∷◌, ◌≡◌, refl, eqb, Result, Ok, Err, is_err}
 use Rattle.std.proofs.Common.{sym, ap, ◌∙◌, arith, eqb-true, eq-eqb, ne_eqb}
 use Rattle.std.proofs.lemmas.Bool.{eqb-false}
+use Rattle.std.proofs.Math.Dec.{T}
 use Rattle.base.specs.declared.refusal.Refusal.{Refusal}
-use Rattle.base.specs.Refusal.{number, refusal, judged, number_of as refusal_number_of}
-use Rattle.base.specs.RefusalLaws.{refusal_number, first_behind, number_judged}
+use Rattle.base.specs.Refusal.{Refusals, first, number, refusal, judged, number_of as refusal_number_of}
+use Rattle.base.specs.RefusalLaws.{refusal_number, first_behind, named, number_judged}
 use Rattle.seats.specs.declared.View.{View}
 use Rattle.seats.specs.Sizes.{size_refusals, size_number}
 use Rattle.seats.specs.SizeLaws.{Allowed, sizes_taken}
@@ -51,6 +52,10 @@ pub answered_number : (r : Result (Unit {0}) Refusal) (c : Choice) → number_of
 unfolding refusal_number_of
 answered_number (Ok x) c = refl
 answered_number (Err why) c = refl
+
+-- So behind a table it is the number that the table gives.
+pub answered_first : (rs : Refusals) (c : Choice) → T (named rs) → number_of (answered (judged rs) (Ok c)) ≡ first rs
+answered_first rs c t = answered_number (judged rs) c ∙ number_judged rs t
 
 -- A refusal has a number.
 pub refused_number : (s : Result Choice Refusal) → is_err s ≡ not (eqb (number_of s) 0)
